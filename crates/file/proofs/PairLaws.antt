@@ -1,0 +1,232 @@
+-- The header and the pairs: which byte lists are accepted, where each part lies, and the turns of the loop that checks them. Assumes nothing.
+use mathlib.Core.Path.{_≡_, refl, sym, _∙_}
+use mathlib.Core.Bool.{Bool, true, false, cond}
+use mathlib.Core.List.{List, []}
+use Prim.Native.Nat.{ℕ, zero, suc, _+_, _*_, _-_, _<_, _≤_}
+use native.Mathlib.Omega.{arith}
+use native.Mathlib.Numerals.{add-one}
+use native.Mathlib.Decide.{ℕ-discrete}
+use lib.Dec.{ltb, eqb}
+use lib.ListN.{length, take, drop, getD, length-take, length-drop, List·getD-eq-default}
+use denote.Ref.{RefT, ptr, now}
+use borrow.Author.Tests.{eq-eqb, ne-eqb, eqb-true, ltb-true, ltb-false, lt-ltb, le-ltb}
+use Rattle.file.specs.Pairs.{numberAt, offsetOf, lengthOf, countOf, checkPairs, checkFile, placeFrom, locateRecord, Part, partOf, startOf, recordAt}
+use Rattle.file.specs.declared.Refusal.{Refusal}
+use Rattle.file.specs.declared.Refusal.the-variants.{FileTooShort, TooManyRecords, BadPair, Absent}
+use Rattle.file.specs.declared.FileCheck.{FileCheck}
+use Rattle.file.specs.declared.FileCheck.the-variants.{Sound, Refused}
+use Rattle.file.specs.declared.Place.{Place}
+use Rattle.file.specs.declared.Place.the-variants.{At, Refused as NotThere}
+
+-- ---- Which byte lists are accepted
+
+-- where part k is due: behind the pairs and the parts before it
+unfoldable pub dueAt : List ℕ → ℕ → ℕ
+dueAt s zero = 2 + 4 * countOf s
+dueAt s (suc k) = dueAt s k + lengthOf s k
+
+-- "Bytes 0-1: record count n, at most 512. Then n pairs .. The first offset is 2 + 4n, each later one is the previous offset plus its length, and the
+-- last part ends at the file's end."
+pub record Accepted (s : List ℕ) : Type 0 where
+  pub two : 2 ≤ length s
+  pub many : countOf s ≤ 512
+  pub pairs : 2 + 4 * countOf s ≤ length s
+  pub starts : (k : ℕ) → k < countOf s → offsetOf s k ≡ dueAt s k
+  pub end : dueAt s (countOf s) ≡ length s
+
+-- which way a test went, where one way is not the answer
+was-true : (b : Bool) (x y z : FileCheck) → cond b x y ≡ z → (y ≡ z → ⊥) → (b ≡ true) × (x ≡ z)
+was-true true x y z e n = (refl, e)
+was-true false x y z e n = absurd (n e)
+
+was-false : (b : Bool) (x y z : FileCheck) → cond b x y ≡ z → (x ≡ z → ⊥) → (b ≡ false) × (y ≡ z)
+was-false true x y z e n = absurd (n e)
+was-false false x y z e n = (refl, e)
+
+not-refused : (r : Refusal) → Refused r ≡ Sound → ⊥
+not-refused r e = let z : _≡_ {A = ℕ} 0 1 = cc in omega arith
+
+turned : (m k due : ℕ) (s : List ℕ) → checkPairs (suc m) k due s ≡ Sound → (offsetOf s k ≡ due) × (checkPairs m (k + 1) (due + lengthOf s k) s ≡ Sound)
+unfolding checkPairs
+turned m k due s e = let w = was-true (eqb (offsetOf s k) due) _ _ _ e (not-refused (BadPair k)) in (eqb-true _ _ (w .0), w .1)
+
+pub due-next : (s : List ℕ) (k : ℕ) → dueAt s (k + 1) ≡ dueAt s k + lengthOf s k
+unfolding dueAt
+due-next s k = rw add-one refl
+
+-- m pairs from pair k on are accepted exactly if each stands where it is due and the last part ends at the file's end
+pairs-start : (m k : ℕ) (s : List ℕ) → checkPairs m k (dueAt s k) s ≡ Sound → (i : ℕ) → k ≤ i → i < k + m → offsetOf s i ≡ dueAt s i
+pairs-start zero k s e i l h = absurd (omega arith)
+pairs-start (suc m) k s e i l h =
+    let t = turned m k (dueAt s k) s e in
+    elim (ℕ-discrete k i) [
+      | yes p ↦ rw (← p) (t .0)
+      | no p ↦ pairs-start m (k + 1) s (rw (due-next s k) (t .1)) i (omega arith) (omega arith)
+    ]
+
+pairs-end : (m k n : ℕ) (s : List ℕ) → n ≡ k + m → checkPairs m k (dueAt s k) s ≡ Sound → dueAt s n ≡ length s
+unfolding checkPairs
+pairs-end zero k n s z e =
+    let same : n ≡ k = omega arith in
+    rw same (eqb-true _ _ (was-true (eqb (dueAt s k) (length s)) _ _ _ e (not-refused (BadPair (k - 1))) .0))
+pairs-end (suc m) k n s z e = pairs-end m (k + 1) n s (omega arith) (rw (due-next s k) (turned m k (dueAt s k) s e .1))
+
+pairs-good : (m k n : ℕ) (s : List ℕ) → n ≡ k + m → ((i : ℕ) → i < n → offsetOf s i ≡ dueAt s i) → dueAt s n ≡ length s → checkPairs m k (dueAt s k) s ≡ Sound
+unfolding checkPairs
+pairs-good zero k n s z f e =
+    let same : n ≡ k = omega arith in
+    rw (eq-eqb (dueAt s k) (length s) (rw same at e)) refl
+pairs-good (suc m) k n s z f e = rw (eq-eqb (offsetOf s k) (dueAt s k) (f k (omega arith)), ← due-next s k) (pairs-good m (k + 1) n s (omega arith) f e)
+
+pub accepted : (s : List ℕ) → checkFile s ≡ Sound → Accepted s
+unfolding checkFile dueAt
+accepted s e =
+    let a = was-false (ltb (length s) 2) _ _ _ e (not-refused FileTooShort) in
+    let b = was-false (ltb 512 (countOf s)) _ _ _ (a .1) (not-refused TooManyRecords) in
+    let d = was-false (ltb (length s) (2 + 4 * countOf s)) _ _ _ (b .1) (not-refused FileTooShort) in
+    record {
+      two = ltb-false _ _ (a .0);
+      many = ltb-false _ _ (b .0);
+      pairs = ltb-false _ _ (d .0);
+      starts = λ k l. pairs-start (countOf s) 0 s (d .1) k (omega arith) (omega arith);
+      end = pairs-end (countOf s) 0 (countOf s) s (omega arith) (d .1);
+    }
+
+pub accepts : (s : List ℕ) → Accepted s → checkFile s ≡ Sound
+unfolding checkFile dueAt
+accepts s a = rw (le-ltb _ _ (a .two), le-ltb _ _ (a .many), le-ltb _ _ (a .pairs)) (pairs-good (countOf s) 0 (countOf s) s (omega arith) (a .starts) (a .end))
+
+-- ---- Where a record's part lies
+
+due-rises : (s : List ℕ) (k m : ℕ) → dueAt s k ≤ dueAt s (k + m)
+due-rises s k zero = let z : k + 0 ≡ k = omega arith in rw z (omega arith)
+due-rises s k (suc m) = let z : k + suc m ≡ k + m + 1 = omega arith in rw (z, due-next s (k + m)) (omega (arith, due-rises s k m))
+
+-- record i's part lies within the file
+pub inside : (s : List ℕ) (i : ℕ) → checkFile s ≡ Sound → i < countOf s → offsetOf s i + lengthOf s i ≤ length s
+inside s i e l =
+    let a = accepted s e in
+    let r = due-rises s (i + 1) (countOf s - (i + 1)) in
+    let z : i + 1 + (countOf s - (i + 1)) ≡ countOf s = omega arith in
+    omega (arith, a .starts i l, a .end, due-next s i, rw z at r)
+
+-- .. and has the length that its pair gives
+pub part-length : (s : List ℕ) (i : ℕ) → checkFile s ≡ Sound → i < countOf s → length (recordAt s i) ≡ lengthOf s i
+part-length s i e l = simp (length-take, length-drop) (omega (arith, inside s i e l))
+
+-- a record that is located lies within the file
+pub located : (s : List ℕ) (i o l : ℕ) → locateRecord s i ≡ At o l → o + l ≤ length s
+located s i o l = go (checkFile s) refl
+  where
+    sure : (b : Bool) → cond b (At (offsetOf s i) (lengthOf s i)) (NotThere Absent) ≡ At o l → (b ≡ true) × ((offsetOf s i ≡ o) × (lengthOf s i ≡ l))
+    sure true e = (refl, (cc, cc))
+    sure false e = let z : _≡_ {A = ℕ} 0 1 = cc in absurd (omega arith)
+
+    go : (f : FileCheck) → checkFile s ≡ f → placeFrom f s i ≡ At o l → o + l ≤ length s
+    go (Refused r) h e = let z : _≡_ {A = ℕ} 0 1 = cc in absurd (omega arith)
+    go Sound h e =
+        let t = sure (ltb i (countOf s)) e in
+        let g = inside s i h (ltb-true _ _ (t .0)) in
+        omega (arith, t .1 .0, t .1 .1, g)
+
+-- record i of an accepted file is "offset to offset plus length" of it
+pub located-at : (s : List ℕ) (i : ℕ) → checkFile s ≡ Sound → i < countOf s → partOf (locateRecord s i) s ≡ take (lengthOf s i) (drop (offsetOf s i) s)
+located-at s i e l = rw (e, lt-ltb _ _ l) refl
+
+-- ---- Fields past the end
+
+-- "a byte past the end counts as 0"
+pub field-past : (s : List ℕ) (a : ℕ) → length s ≤ a → numberAt s a 2 ≡ 0
+unfolding numberAt
+field-past s a l = rw (List·getD-eq-default s 0 l, List·getD-eq-default s 0 (le-step l)) refl
+  where
+    le-step : length s ≤ a → length s ≤ a + 1
+    le-step h = omega arith
+
+pub field-last : (s : List ℕ) (a : ℕ) → length s - a ≡ 1 → numberAt s a 2 ≡ getD s a 0
+unfolding numberAt
+field-last s a l = let h : length s ≤ a + 1 = omega arith in rw (List·getD-eq-default s 0 h) (omega arith)
+
+-- ---- The turns of `check_file`: what is left of the definition, run from the present state, is the whole
+
+pub record Inv (s : List ℕ) (n due last k : ℕ) : Type 0 where
+  pub fits : 2 + 4 * n ≤ length s
+  pub many : n ≤ 512
+  pub low : k ≤ n
+  pub bound : due ≤ 65536 * (k + 1)
+  pub before : last ≡ k - 1
+  pub same : checkPairs (n - k) k due s ≡ checkFile s
+
+-- what a field that was read is
+abbrev pub Field : List ℕ → ℕ → ℕ → Type 0
+Field s a r = (r ≡ numberAt s a 2) × (r < 65536)
+
+module _ (s : List ℕ) (n due last k : ℕ) (i : Inv s n due last k) where
+  turn : k < n → checkPairs (n - k) k due s ≡ cond (eqb (offsetOf s k) due) (checkPairs (n - (k + 1)) (k + 1) (due + lengthOf s k) s) (Refused (BadPair k))
+  unfolding checkPairs
+  turn l = let z : n - k ≡ suc (n - (k + 1)) = omega arith in rw z refl
+
+  pub bad : (o : ℕ) → k < n → Field s (2 + 4 * k) o → (o ≡ due → ⊥) → Refused (BadPair k) ≡ checkFile s
+  bad o l h ne = rw (← i .same, turn l, ← h .0, ne-eqb _ _ ne) refl
+
+  pub next : (o m : ℕ) → k < n → Field s (2 + 4 * k) o → (o ≡ due) → Field s (4 + 4 * k) m → Inv s n (due + m) k (k + 1)
+  next o m l h e g = record {
+    fits = i .fits;
+    many = i .many;
+    low = omega arith;
+    bound = omega (arith, i .bound, g .1);
+    before = omega arith;
+    same = let t = rw (← h .0, eq-eqb _ _ e) at (turn l) in rw (← i .same, t, g .0) refl;
+  }
+
+  stop : n ≤ k → checkPairs 0 k due s ≡ checkFile s
+  stop l = let z : n - k ≡ 0 = omega arith in rw z at (i .same)
+
+  pub whole : n ≤ k → due ≡ length s → Sound ≡ checkFile s
+  unfolding checkPairs
+  whole l e = rw (← stop l, eq-eqb _ _ e) refl
+
+  pub wrong : n ≤ k → (due ≡ length s → ⊥) → Refused (BadPair last) ≡ checkFile s
+  unfolding checkPairs
+  wrong l e = rw (← stop l, ne-eqb _ _ e, i .before) refl
+
+module _ (s : List ℕ) (n : ℕ) (two : 2 ≤ length s) (h : Field s 0 n) where
+  pub over : 512 < n → Refused TooManyRecords ≡ checkFile s
+  unfolding checkFile
+  over g = rw (le-ltb _ _ two, ← h .0, lt-ltb _ _ g) refl
+
+  pub short : n ≤ 512 → length s < 2 + 4 * n → Refused FileTooShort ≡ checkFile s
+  unfolding checkFile
+  short l g = rw (le-ltb _ _ two, ← h .0, le-ltb _ _ l, lt-ltb _ _ g) refl
+
+  pub begin : n ≤ 512 → 2 + 4 * n ≤ length s → Inv s n (2 + 4 * n) 0 0
+  unfolding checkFile
+  begin l g = record {
+    fits = g;
+    many = l;
+    low = omega arith;
+    bound = omega arith;
+    before = refl;
+    same = let z : n - 0 ≡ n = omega arith in rw (z, le-ltb _ _ two, ← h .0, le-ltb _ _ l, le-ltb _ _ g) refl;
+  }
+
+-- ---- The answers of `locate_record` and `record_at`
+
+module _ (s : List ℕ) (i n : ℕ) (e : checkFile s ≡ Sound) (h : Field s 0 n) where
+  pub reach : i < n → 4 + 4 * i + 1 < length s
+  reach l = omega (arith, accepted s e .pairs, h .0)
+
+  pub at-place : (o l : ℕ) → i < n → Field s (2 + 4 * i) o → Field s (4 + 4 * i) l → At o l ≡ locateRecord s i
+  at-place o l t f g = rw (e, ← h .0, lt-ltb _ _ t, f .0, g .0) refl
+
+  pub not-there : n ≤ i → NotThere Absent ≡ locateRecord s i
+  not-there t = rw (e, ← h .0, le-ltb _ _ t) refl
+
+module _ (f r : RefT (List ℕ)) (i : ℕ) (b : ptr r .0 ≡ ptr f .0) where
+  pub is-part : (o l : ℕ) → locateRecord (now f) i ≡ At o l → now r ≡ take (o + l - o) (drop o (now f)) → ptr r .1 ≡ o + ptr f .1 → Part f r i
+  is-part o l e p q =
+      let z : o + l - o ≡ l = omega arith in
+      record { bytes = rw (e, p, z) refl; block = b; start = rw e q }
+
+  pub no-part : (x : Refusal) → locateRecord (now f) i ≡ NotThere x → now r ≡ [] → ptr r .1 ≡ 0 + ptr f .1 → Part f r i
+  no-part x e h q = record { bytes = rw e h; block = b; start = rw e q }

@@ -1,0 +1,190 @@
+-- A record: what its rule says, its exact length, and the answers of the parser's functions. Assumes nothing.
+use mathlib.Core.Path.{_≡_, refl, sym, _∙_, ap}
+use mathlib.Core.Bool.{Bool, true, false, cond, not, _&&_}
+use mathlib.Core.List.{List}
+use mathlib.Core.Logic.{⊎-elim, _⊎_, inl, inr}
+use Prim.Native.Nat.{ℕ, suc, _+_, _*_, _-_, _<_, _≤_}
+use native.Mathlib.Omega.{arith}
+use lib.Dec.{leb, eqb}
+use lib.ListN.{length, getD, List·getD-eq-default}
+use borrow.Author.Tests.{eqb-true, eqb-false, ne-eqb, eq-eqb, le-leb, lt-leb, leb-true}
+use Rattle.file.specs.Pairs.{numberAt, recordAt}
+use Rattle.file.specs.Records
+use Rattle.file.proofs.PairLaws.{field-past}
+use Rattle.file.specs.declared.Refusal.the-variants.{BadRecord}
+use Rattle.file.specs.declared.InvolvedQubits.{InvolvedQubits}
+use Rattle.file.specs.declared.InvolvedClassical.{InvolvedClassical}
+use Rattle.file.specs.declared.InvolvedClassical.the-variants.{None, All, AllQubits, Set, Definition}
+use Rattle.file.specs.declared.Parsed.{Parsed}
+use Rattle.file.specs.declared.Parsed.the-variants.{Record as Parses, Refused}
+
+bool-cases : (b : Bool) → (b ≡ true) ⊎ (b ≡ false)
+bool-cases true = inl refl
+bool-cases false = inr refl
+
+both-true : (a b : Bool) → (a && b) ≡ true → (a ≡ true) × (b ≡ true)
+both-true true b e = (refl, e)
+both-true false b e = let z : _≡_ {A = ℕ} 0 1 = cc in absurd (omega arith)
+
+clash : {A : Type 0} → false ≡ true → A
+clash e = let z : _≡_ {A = ℕ} 0 1 = cc in absurd (omega arith)
+
+pub was-false : (b : Bool) → not b ≡ true → b ≡ false
+was-false true e = clash e
+was-false false e = refl
+
+pub was-true : (b : Bool) → not b ≡ false → b ≡ true
+was-true true e = refl
+was-true false e = sym e
+
+-- ---- What a record that keeps its rule has
+
+-- the kind, and what it asks of the two forms
+abbrev pub kindRule : List ℕ → Bool
+kindRule s = leb (Records.kind s) 5 && Records.definitionRule (Records.kind s) (Records.qubitForm s) (Records.registerForm s)
+
+pub record Rule (s : List ℕ) : Type 0 where
+  pub long : 14 ≤ length s
+  pub end : getD s 0 0 ≤ 1
+  pub kinds : kindRule s ≡ true
+  pub qubits : Records.qubitRule (Records.qubitForm s) (Records.mask s) ≡ true
+  pub tail : Records.tailRule s ≡ true
+
+pub rule : (s : List ℕ) → Records.recordRule s ≡ true → Rule s
+unfolding Records.recordRule
+rule s e =
+    let a = both-true _ (Records.tailRule s) e in
+    let b = both-true _ (Records.qubitRule (Records.qubitForm s) (Records.mask s)) (a .0) in
+    let d = both-true _ (kindRule s) (b .0) in
+    let f = both-true (leb 14 (length s)) (leb (getD s 0 0) 1) (d .0) in
+    record { long = leb-true _ _ (f .0); end = leb-true _ _ (f .1); kinds = d .1; qubits = b .1; tail = a .1 }
+
+-- "The length is exact: 14, 15, 15, 15 + 3c or 17."
+abbrev pub exactLength : InvolvedClassical → ℕ
+exactLength None = 14
+exactLength (All n) = 15
+exactLength (AllQubits n) = 15
+exactLength (Set c) = 15 + 3 * c
+exactLength (Definition n m) = 17
+
+set-size : (s : List ℕ) → Records.setRule s ≡ true → length s ≡ 15 + 3 * Records.count s
+unfolding Records.setRule
+set-size s e = eqb-true _ _ (both-true _ _ (both-true _ _ e .0) .0)
+
+pub tail-length : (s : List ℕ) → Records.tailRule s ≡ true → length s ≡ exactLength (Records.classicalOf s)
+unfolding Records.tailRule Records.classicalOf
+tail-length s e = ⊎-elim
+    (λ (a : eqb (Records.registerForm s) 0 ≡ true). rw a (eqb-true _ _ (rw a at e)))
+    (λ (a : eqb (Records.registerForm s) 0 ≡ false). ⊎-elim
+    (λ (b : eqb (Records.registerForm s) 1 ≡ true). rw (a, b) (eqb-true _ _ (rw (a, b) at e)))
+    (λ (b : eqb (Records.registerForm s) 1 ≡ false). ⊎-elim
+    (λ (d : eqb (Records.registerForm s) 2 ≡ true). rw (a, b, d) (eqb-true _ _ (rw (a, b, d) at e)))
+    (λ (d : eqb (Records.registerForm s) 2 ≡ false). ⊎-elim
+    (λ (f : eqb (Records.registerForm s) 3 ≡ true). rw (a, b, d, f) (set-size s (rw (a, b, d, f) at e)))
+    (λ (f : eqb (Records.registerForm s) 3 ≡ false). ⊎-elim
+    (λ (g : eqb (Records.registerForm s) 4 ≡ true). rw (a, b, d, f) (eqb-true _ _ (rw (a, b, d, f, g) at e)))
+    (λ (g : eqb (Records.registerForm s) 4 ≡ false). clash (rw (a, b, d, f, g) at e))
+    (bool-cases (eqb (Records.registerForm s) 4)))
+    (bool-cases (eqb (Records.registerForm s) 3)))
+    (bool-cases (eqb (Records.registerForm s) 2)))
+    (bool-cases (eqb (Records.registerForm s) 1)))
+    (bool-cases (eqb (Records.registerForm s) 0))
+
+pub exact-length : (s : List ℕ) → Records.recordRule s ≡ true → length s ≡ exactLength (Records.classicalOf s)
+exact-length s e = tail-length s (rule s e .tail)
+
+-- parsing depends on the record's bytes alone, whichever file they stand in and wherever
+pub same-bytes : (s t : List ℕ) (i j : ℕ) → recordAt s i ≡ recordAt t j → Records.parseRecord (recordAt s i) ≡ Records.parseRecord (recordAt t j)
+same-bytes s t i j e = ap Records.parseRecord e
+
+-- the form's number of what a record involves is the record's qubit form
+pub form-kept : (s : List ℕ) → Records.recordRule s ≡ true → Records.formOf (Records.qubitsOf s) ≡ Records.qubitForm s
+unfolding Records.qubitsBy Records.qubitRule
+form-kept s e = ⊎-elim
+    (λ (a : eqb (Records.qubitForm s) 0 ≡ true). rw a (sym (eqb-true _ _ a)))
+    (λ (a : eqb (Records.qubitForm s) 0 ≡ false). ⊎-elim
+    (λ (b : eqb (Records.qubitForm s) 1 ≡ true). rw (a, b) (sym (eqb-true _ _ b)))
+    (λ (b : eqb (Records.qubitForm s) 1 ≡ false). rw (a, b) (last a b))
+    (bool-cases (eqb (Records.qubitForm s) 1)))
+    (bool-cases (eqb (Records.qubitForm s) 0))
+  where
+    low : Records.qubitForm s ≤ 2
+    low = leb-true _ _ (both-true (leb (Records.qubitForm s) 2) _ (rule s e .qubits) .0)
+
+    last : eqb (Records.qubitForm s) 0 ≡ false → eqb (Records.qubitForm s) 1 ≡ false → 2 ≡ Records.qubitForm s
+    last a b = let x : Records.qubitForm s ≡ 0 → ⊥ = eqb-false _ _ a in let y : Records.qubitForm s ≡ 1 → ⊥ = eqb-false _ _ b in omega (arith, low)
+
+-- ---- One turn of `is_ascending`
+
+module _ (s : List ℕ) (c k : ℕ) where
+  pub ascend-turn : (b : Bool) → k + 1 < c → b ≡ Records.entryBefore s k → Records.ascendFrom (c - 1 - k) k s ≡ (b && Records.ascendFrom (c - 1 - (k + 1)) (k + 1) s)
+  unfolding Records.ascendFrom
+  ascend-turn b l e = let z : c - 1 - k ≡ suc (c - 1 - (k + 1)) = omega arith in rw (z, e) refl
+
+  pub ascend-end : c ≤ k + 1 → Records.ascendFrom (c - 1 - k) k s ≡ true
+  unfolding Records.ascendFrom
+  ascend-end l = let z : c - 1 - k ≡ 0 = omega arith in rw z refl
+
+-- ---- The answers of `is_set`, `involved_classical` and `parse_record`
+
+some-tail : (a b d : Bool) (n m : ℕ) → 15 ≤ exactLength (cond a (All n) (cond b (AllQubits n) (cond d (Set n) (Definition n m))))
+some-tail true b d n m = omega arith
+some-tail false true d n m = omega arith
+some-tail false false true n m = omega arith
+some-tail false false false n m = omega arith
+
+module _ (s : List ℕ) where
+  pub set-short : length s < 15 → false ≡ Records.setRule s
+  unfolding Records.setRule
+  set-short l = rw (ne-eqb (length s) (15 + 3 * Records.count s) (omega arith)) refl
+
+  module _ (t : Records.tailRule s ≡ true) where
+    -- a record with a register form has its tail's first byte, and a definition all of its tail
+    pub named : 1 ≤ Records.registerForm s → 15 ≤ length s
+    unfolding Records.classicalOf
+    named n =
+        let e = rw (ne-eqb (Records.registerForm s) 0 (omega arith)) at (tail-length s t) in
+        omega (arith, e, some-tail (eqb (Records.registerForm s) 1) (eqb (Records.registerForm s) 2) (eqb (Records.registerForm s) 3) (Records.name s) (Records.size s))
+
+    pub defined : 4 ≤ Records.registerForm s → length s ≡ 17
+    unfolding Records.classicalOf
+    defined n =
+        rw (
+          ne-eqb (Records.registerForm s) 0 (omega arith),
+          ne-eqb (Records.registerForm s) 1 (omega arith),
+          ne-eqb (Records.registerForm s) 2 (omega arith),
+          ne-eqb (Records.registerForm s) 3 (omega arith),
+        ) at (tail-length s t)
+
+  -- an entry that begins past the end
+  pub no-entry : (k : ℕ) → length s ≤ 15 + 3 * k → record { name = 0; index = 0 } ≡ Records.keyAt s k
+  no-entry k l = let h : length s ≤ 16 + 3 * k = omega arith in rw (List·getD-eq-default s 0 l, field-past s (16 + 3 * k) h) refl
+
+  pub too-short : length s < 14 → Refused (BadRecord 0) ≡ Records.parseRecord s
+  unfolding Records.parseRecord Records.recordRule
+  too-short l = rw (lt-leb 14 (length s) l) refl
+
+  module _ (long : 14 ≤ length s) where
+    pub bad-end : 1 < getD s 0 0 → Refused (BadRecord 0) ≡ Records.parseRecord s
+    unfolding Records.parseRecord Records.recordRule
+    bad-end l = rw (le-leb 14 (length s) long, lt-leb (getD s 0 0) 1 l) refl
+
+    module _ (side : getD s 0 0 ≤ 1) where
+      pub bad-kind : kindRule s ≡ false → Refused (BadRecord 0) ≡ Records.parseRecord s
+      unfolding Records.parseRecord Records.recordRule
+      bad-kind e = rw (le-leb 14 (length s) long, le-leb (getD s 0 0) 1 side, e) refl
+
+      module _ (m : ℕ) (read : m ≡ Records.mask s) (k : kindRule s ≡ true) where
+        pub bad-qubits : Records.qubitRule (Records.qubitForm s) m ≡ false → Refused (BadRecord 0) ≡ Records.parseRecord s
+        unfolding Records.parseRecord Records.recordRule
+        bad-qubits e = rw (le-leb 14 (length s) long, le-leb (getD s 0 0) 1 side, k, ← read, e) refl
+
+        module _ (q : Records.qubitRule (Records.qubitForm s) m ≡ true) where
+          pub bad-tail : Records.tailRule s ≡ false → Refused (BadRecord 0) ≡ Records.parseRecord s
+          unfolding Records.parseRecord Records.recordRule
+          bad-tail e = rw (le-leb 14 (length s) long, le-leb (getD s 0 0) 1 side, k, ← read, q, e) refl
+
+          pub good : (x : InvolvedQubits) (y : InvolvedClassical) (l : ℕ) → Records.tailRule s ≡ true → x ≡ Records.qubitsBy (Records.qubitForm s) m → y ≡ Records.classicalOf s → l ≡ numberAt s 12 2
+              → Parses (record { front = eqb (getD s 0 0) 1; kind = Records.kind s; label = l; qubits = x; classical = y }) ≡ Records.parseRecord s
+          unfolding Records.parseRecord Records.recordRule
+          good x y l t e g h = rw (le-leb 14 (length s) long, le-leb (getD s 0 0) 1 side, k, ← read, q, t, e, g, h) refl

@@ -1,0 +1,376 @@
+// Runs of the circuit file: every prefix and every change of one byte of a small good file, and the limits. Each distinct answer
+// is printed with how often it came; tools/file_answers.py prints the same from document 01 alone.
+ghost use Prim.Native.Nat.{_<_, _≤_};
+use file::FileCheck;
+use file::Parsed;
+use file::Place;
+use file::Refusal;
+use file::RefusalValue;
+use libc::STDOUT_FILENO;
+
+// Seven records, of each register form, at both ends.
+const GOOD: [u8; 141] = [
+    7,
+    0,
+    30,
+    0,
+    14,
+    0,
+    44,
+    0,
+    21,
+    0,
+    65,
+    0,
+    17,
+    0,
+    82,
+    0,
+    15,
+    0,
+    97,
+    0,
+    15,
+    0,
+    112,
+    0,
+    15,
+    0,
+    127,
+    0,
+    14,
+    0,
+    0,
+    0,
+    2,
+    1,
+    0,
+    0,
+    0,
+    0,
+    0,
+    0,
+    0,
+    0,
+    0,
+    0,
+    1,
+    0,
+    2,
+    2,
+    0,
+    0,
+    0,
+    0,
+    0,
+    0,
+    128,
+    3,
+    1,
+    2,
+    2,
+    1,
+    0,
+    0,
+    1,
+    0,
+    1,
+    0,
+    1,
+    0,
+    0,
+    0,
+    0,
+    0,
+    0,
+    0,
+    0,
+    0,
+    4,
+    0,
+    0,
+    1,
+    44,
+    1,
+    0,
+    0,
+    1,
+    0,
+    0,
+    0,
+    0,
+    0,
+    0,
+    0,
+    0,
+    1,
+    0,
+    0,
+    2,
+    1,
+    5,
+    0,
+    0,
+    0,
+    0,
+    0,
+    0,
+    0,
+    0,
+    0,
+    2,
+    0,
+    0,
+    255,
+    0,
+    5,
+    0,
+    0,
+    0,
+    0,
+    0,
+    0,
+    0,
+    0,
+    0,
+    3,
+    0,
+    0,
+    0,
+    0,
+    0,
+    0,
+    0,
+    0,
+    0,
+    0,
+    0,
+    0,
+    0,
+    0,
+    0,
+    0,
+    0,
+];
+
+// The first refusal in checking a file and parsing its records in order.
+fn parse_all(file: &[u8]) -> FileCheck {
+    let found = file::check_file(file);
+    match found {
+        FileCheck::Refused(r) => FileCheck::Refused(r),
+        FileCheck::Sound => parse_records(file),
+    }
+}
+
+fn parse_records(file: &[u8]) -> FileCheck {
+    let n = file::record_count(file);
+    let mut k: usize = 0;
+    while k < n {
+        let parsed = file::parse_record(file::record_at(file, k));
+        if let Parsed::Refused(_) = parsed {
+            return FileCheck::Refused(Refusal::BadRecord(k));
+        }
+        k += 1;
+    }
+    FileCheck::Sound
+}
+
+// Reading record i.
+fn read(file: &[u8], i: usize) -> FileCheck {
+    let place = file::locate_record(file, i);
+    match place {
+        Place::Refused(r) => FileCheck::Refused(r),
+        Place::At {
+            offset: _,
+            length: _,
+        } => FileCheck::Sound,
+    }
+}
+
+fn wide(x: u8) -> usize
+    ensures { λ r. ⌜ r < 256 ⌝ }
+{
+    x as usize
+}
+
+// A slot for each answer on files of seven records: 0 for acceptance, else 8 times the number plus the pair or record, 7 where
+// there is none.
+fn slot(answer: FileCheck) -> usize
+    ensures { λ r. ⌜ r < 96 ⌝ }
+{
+    match answer {
+        FileCheck::Sound => 0,
+        FileCheck::Refused(r) => {
+            let value = file::refusal_value(r);
+            let number = wide(file::refusal_number(r));
+            match value {
+                RefusalValue::Nothing => (number * 8 + 7) % 96,
+                RefusalValue::At(i) => (number * 8 + i % 8) % 96,
+            }
+        }
+    }
+}
+
+fn print_answer(number: usize, at: usize) {
+    if number == 0 {
+        io::write_all(STDOUT_FILENO, b"accepted");
+        return;
+    }
+    io::write_all(STDOUT_FILENO, b"refused ");
+    io::print_decimal(STDOUT_FILENO, number as u64);
+    if at < 7 {
+        io::write_all(STDOUT_FILENO, b" at ");
+        io::print_decimal(STDOUT_FILENO, at as u64);
+    }
+}
+
+fn print_counts(counts: [u32; 96]) {
+    let mut k: usize = 0;
+    while k < 96 {
+        let times = counts[k];
+        if times != 0 {
+            print_answer(k / 8, k % 8);
+            io::write_all(STDOUT_FILENO, b": ");
+            io::print_decimal(STDOUT_FILENO, times as u64);
+            io::write_all(STDOUT_FILENO, b"\n");
+        }
+        k += 1;
+    }
+}
+
+// Adds one to a count; the runs stay far below its width.
+fn count_one(counts: &mut [u32; 96], k: usize)
+    requires { ⌜ k < 96 ⌝ }
+{
+    let old = counts[k];
+    if old < 1000000 {
+        counts[k] = old + 1;
+    }
+}
+
+// The slot of a file's answer: parsed, or record i read.
+fn answer_of(file: &[u8], parsed: bool, i: usize) -> usize
+    ensures { λ r. ⌜ r < 96 ⌝ }
+{
+    if parsed {
+        return slot(parse_all(file));
+    }
+    slot(read(file, i))
+}
+
+fn count_prefixes(parsed: bool, i: usize) -> [u32; 96] {
+    let file = GOOD;
+    let mut counts = [0u32; 96];
+    let start: usize = 0;
+    let mut n: usize = 0;
+    while n <= 141 {
+        count_one(&mut counts, answer_of(&file[start..n], parsed, i));
+        n += 1;
+    }
+    counts
+}
+
+// The good file with byte b at a place, where that is another byte.
+fn count_change(at: usize, b: u8, parsed: bool, counts: &mut [u32; 96])
+    requires { ⌜ at < 141 ⌝ }
+{
+    let mut file = GOOD;
+    if file[at] != b {
+        file[at] = b;
+        count_one(counts, answer_of(&file, parsed, 6));
+    }
+}
+
+fn count_changes(parsed: bool) -> [u32; 96] {
+    let mut counts = [0u32; 96];
+    let mut k: usize = 0;
+    while k < 36096 {
+        count_change(k / 256, (k % 256) as u8, parsed, &mut counts);
+        k += 1;
+    }
+    counts
+}
+
+// A file of n records of 14 zero bytes in a larger array: the header and pair k, then zeros.
+fn zero_records(n: usize) -> [u8; 9237]
+    requires { ⌜ n ≤ 513 ⌝ }
+{
+    let mut file = [0u8; 9237];
+    file[0] = (n % 256) as u8;
+    file[1] = (n / 256) as u8;
+    let mut k: usize = 0;
+    while k < n {
+        let at = 2 + 4 * k;
+        let offset = 2 + 4 * n + 14 * k;
+        file[at] = (offset % 256) as u8;
+        file[at + 1] = (offset / 256 % 256) as u8;
+        file[at + 2] = 14;
+        k += 1;
+    }
+    file
+}
+
+// One line: what it is, then the answer to the first n bytes.
+fn print_limit(title: &[u8], bytes: &[u8], n: usize) {
+    let start: usize = 0;
+    if bytes.len() < n {
+        return;
+    }
+    let file = &bytes[start..n];
+    io::write_all(STDOUT_FILENO, title);
+    io::write_all(STDOUT_FILENO, b": ");
+    let answer = parse_all(file);
+    match answer {
+        FileCheck::Sound => {
+            io::write_all(STDOUT_FILENO, b"accepted");
+        }
+        FileCheck::Refused(r) => print_refusal(r),
+    }
+    io::write_all(STDOUT_FILENO, b"\n");
+}
+
+fn print_refusal(r: Refusal) {
+    io::write_all(STDOUT_FILENO, b"refused ");
+    io::print_decimal(STDOUT_FILENO, file::refusal_number(r) as u64);
+    let value = file::refusal_value(r);
+    match value {
+        RefusalValue::Nothing => {}
+        RefusalValue::At(i) => {
+            io::write_all(STDOUT_FILENO, b" at ");
+            io::print_decimal(STDOUT_FILENO, i as u64);
+        }
+    }
+}
+
+fn print_limits() {
+    io::write_all(STDOUT_FILENO, b"limits\n");
+    let zeros = [0u8; 3];
+    print_limit(b"no byte", &zeros, 0);
+    print_limit(b"one byte", &zeros, 1);
+    print_limit(b"no record", &zeros, 2);
+    print_limit(b"no record and a byte", &zeros, 3);
+    let full = zero_records(512);
+    print_limit(b"512 records", &full, 9218);
+    print_limit(b"512 records, one byte less", &full, 9217);
+    print_limit(b"512 records, one byte more", &full, 9219);
+    print_limit(b"512 in the header alone", &full, 2);
+    let over = zero_records(513);
+    print_limit(b"513 in the header alone", &over, 2);
+    print_limit(b"513 records", &over, 9236);
+    let most = [255u8; 2];
+    print_limit(b"65535 in the header alone", &most, 2);
+}
+
+fn main() {
+    io::write_all(STDOUT_FILENO, b"prefixes, parsed\n");
+    print_counts(count_prefixes(true, 0));
+    io::write_all(STDOUT_FILENO, b"prefixes, record 6 read\n");
+    print_counts(count_prefixes(false, 6));
+    io::write_all(STDOUT_FILENO, b"prefixes, record 7 read\n");
+    print_counts(count_prefixes(false, 7));
+    io::write_all(STDOUT_FILENO, b"changes of one byte, parsed\n");
+    print_counts(count_changes(true));
+    io::write_all(STDOUT_FILENO, b"changes of one byte, record 6 read\n");
+    print_counts(count_changes(false));
+    print_limits();
+}

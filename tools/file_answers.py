@@ -1,0 +1,139 @@
+#!/usr/bin/env python3
+"""The answers that document 01's "Circuit file" gives to the files of crates/file_runs, read from the document alone.
+
+Prints what crates/file_runs/stdout must hold:  python3 tools/file_answers.py | diff - crates/file_runs/stdout
+With the argument --rust it prints the small good file as the array of crates/file_runs/src/main.rt."""
+import sys
+from collections import Counter
+
+
+def record(end=0, kind=0, form=0, mask=0, register=0, label=0, tail=b""):
+    return bytes([end, kind, form]) + mask.to_bytes(8, "little") + bytes([register]) + label.to_bytes(2, "little") + tail
+
+
+def entries(*keys):
+    return bytes([len(keys)]) + b"".join(bytes([name]) + index.to_bytes(2, "little") for name, index in keys)
+
+
+def circuit_file(records):
+    n = len(records)
+    at, pairs = 2 + 4 * n, b""
+    for r in records:
+        pairs += at.to_bytes(2, "little") + len(r).to_bytes(2, "little")
+        at += len(r)
+    return n.to_bytes(2, "little") + pairs + b"".join(records)
+
+
+GOOD = circuit_file([
+    record(form=2, mask=1),                                                    # B{0}
+    record(end=1, form=2, mask=1 << 63 | 2, register=3, label=513, tail=entries((1, 0), (1, 256))),
+    record(kind=1, register=4, tail=bytes([1, 44, 1])),                        # Bit name 1 length 300
+    record(form=1, register=1, tail=bytes([2])),                               # B All, register All
+    record(end=1, kind=5, register=2, tail=bytes([255])),
+    record(kind=5, register=3, tail=entries()),
+    record(),
+])
+
+
+def number(s, at, n):
+    return int.from_bytes(s[at:at + n], "little")
+
+
+def check(s):
+    """None, or the refusal of the header and the pairs."""
+    if len(s) < 2:
+        return (1, None)
+    n = number(s, 0, 2)
+    if n > 512:
+        return (2, None)
+    if len(s) < 2 + 4 * n:
+        return (1, None)
+    due = 2 + 4 * n
+    for k in range(n):
+        if number(s, 2 + 4 * k, 2) != due:
+            return (3, k)
+        due += number(s, 4 + 4 * k, 2)
+    return None if due == len(s) else (3, max(n - 1, 0))
+
+
+def keeps_rule(r):
+    if len(r) < 14 or r[0] > 1 or r[1] > 5 or r[2] > 2 or r[11] > 4:
+        return False
+    if (1 <= r[1] <= 4) != (r[11] == 4) or (1 <= r[1] <= 4 and r[2] != 0):
+        return False
+    if r[2] != 2 and any(r[3:11]):
+        return False
+    if r[11] == 3:
+        if len(r) < 15 or r[14] > 16 or len(r) != 15 + 3 * r[14]:
+            return False
+        keys = [(r[15 + 3 * k], number(r, 16 + 3 * k, 2)) for k in range(r[14])]
+        return all(a < b for a, b in zip(keys, keys[1:]))
+    return len(r) == {0: 14, 1: 15, 2: 15, 4: 17}[r[11]]
+
+
+def part(s, i):
+    at = number(s, 2 + 4 * i, 2)
+    return s[at:at + number(s, 4 + 4 * i, 2)]
+
+
+def parse_all(s):
+    """The first refusal in checking the file and parsing its records in order."""
+    refused = check(s)
+    if refused:
+        return refused
+    for i in range(number(s, 0, 2)):
+        if not keeps_rule(part(s, i)):
+            return (4, i)
+    return None
+
+
+def read(s, i):
+    """Reading record i: 2, 1, 3, 8."""
+    return check(s) or (None if i < number(s, 0, 2) else (8, None))
+
+
+def text(refused):
+    if refused is None:
+        return "accepted"
+    return f"refused {refused[0]}" + (f" at {refused[1]}" if refused[1] is not None else "")
+
+
+def key(refused):
+    return (0, 0) if refused is None else (refused[0], 7 if refused[1] is None else refused[1])
+
+
+def counted(title, answers):
+    print(title)
+    for refused, times in sorted(Counter(answers).items(), key=lambda x: key(x[0])):
+        print(f"{text(refused)}: {times}")
+
+
+def changed(s):
+    for at in range(len(s)):
+        for b in range(256):
+            if b != s[at]:
+                yield s[:at] + bytes([b]) + s[at + 1:]
+
+
+def main():
+    if "--rust" in sys.argv:
+        print(len(GOOD), ", ".join(map(str, GOOD)))
+        return
+    prefixes = [GOOD[:n] for n in range(len(GOOD) + 1)]
+    counted("prefixes, parsed", [parse_all(s) for s in prefixes])
+    counted("prefixes, record 6 read", [read(s, 6) for s in prefixes])
+    counted("prefixes, record 7 read", [read(s, 7) for s in prefixes])
+    counted("changes of one byte, parsed", [parse_all(s) for s in changed(GOOD)])
+    counted("changes of one byte, record 6 read", [read(s, 6) for s in changed(GOOD)])
+    print("limits")
+    full = circuit_file([record()] * 512)
+    for title, s in [
+        ("no byte", b""), ("one byte", b"\0"), ("no record", b"\0\0"), ("no record and a byte", b"\0\0\0"),
+        ("512 records", full), ("512 records, one byte less", full[:-1]), ("512 records, one byte more", full + b"\0"),
+        ("512 in the header alone", b"\0\2"), ("513 in the header alone", b"\1\2"), ("513 records", circuit_file([record()] * 513)),
+        ("65535 in the header alone", b"\xff\xff"),
+    ]:
+        print(f"{title}: {text(parse_all(s))}")
+
+
+main()
