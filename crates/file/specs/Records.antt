@@ -39,20 +39,23 @@ registerForm s = getD s 11 0
 abbrev pub label : List ℕ → ℕ
 label s = numberAt s 12 2
 
--- "tail: .. the register name's number; .. a count byte c; .. name 1 byte, length 2 bytes"
+-- "tail: .. 1 and 2 one byte, the register name's number"
 abbrev pub name : List ℕ → ℕ
 name s = getD s 14 0
 
+-- "3 a count byte c"
 abbrev pub count : List ℕ → ℕ
 count s = getD s 14 0
 
+-- "4 name 1 byte, length 2 bytes"
 abbrev pub size : List ℕ → ℕ
 size s = numberAt s 15 2
 
--- "c entries (name 1 byte, index 2 bytes)": entry k
+-- "c entries (name 1 byte, index 2 bytes)": entry k's name
 abbrev pub entryName : List ℕ → ℕ → ℕ
 entryName s k = getD s (15 + 3 * k) 0
 
+-- .. its index
 abbrev pub entryIndex : List ℕ → ℕ → ℕ
 entryIndex s k = numberAt s (16 + 3 * k) 2
 
