@@ -114,6 +114,26 @@ form-kept s e = ⊎-elim
     last : eqb (Records.qubitForm s) 0 ≡ false → eqb (Records.qubitForm s) 1 ≡ false → 2 ≡ Records.qubitForm s
     last a b = let x : Records.qubitForm s ≡ 0 → ⊥ = eqb-false _ _ a in let y : Records.qubitForm s ≡ 1 → ⊥ = eqb-false _ _ b in omega (arith, low)
 
+-- .. and that of the registers it involves the register form
+pub register-kept : (s : List ℕ) → Records.recordRule s ≡ true → Records.registerFormOf (Records.classicalOf s) ≡ Records.registerForm s
+unfolding Records.classicalOf Records.tailRule
+register-kept s e = ⊎-elim
+    (λ (a : eqb (Records.registerForm s) 0 ≡ true). rw a (sym (eqb-true _ _ a)))
+    (λ (a : eqb (Records.registerForm s) 0 ≡ false). ⊎-elim
+    (λ (b : eqb (Records.registerForm s) 1 ≡ true). rw (a, b) (sym (eqb-true _ _ b)))
+    (λ (b : eqb (Records.registerForm s) 1 ≡ false). ⊎-elim
+    (λ (d : eqb (Records.registerForm s) 2 ≡ true). rw (a, b, d) (sym (eqb-true _ _ d)))
+    (λ (d : eqb (Records.registerForm s) 2 ≡ false). ⊎-elim
+    (λ (f : eqb (Records.registerForm s) 3 ≡ true). rw (a, b, d, f) (sym (eqb-true _ _ f)))
+    (λ (f : eqb (Records.registerForm s) 3 ≡ false). ⊎-elim
+    (λ (g : eqb (Records.registerForm s) 4 ≡ true). rw (a, b, d, f) (sym (eqb-true _ _ g)))
+    (λ (g : eqb (Records.registerForm s) 4 ≡ false). clash (rw (a, b, d, f, g) at (rule s e .tail)))
+    (bool-cases (eqb (Records.registerForm s) 4)))
+    (bool-cases (eqb (Records.registerForm s) 3)))
+    (bool-cases (eqb (Records.registerForm s) 2)))
+    (bool-cases (eqb (Records.registerForm s) 1)))
+    (bool-cases (eqb (Records.registerForm s) 0))
+
 -- ---- One turn of `is_ascending`
 
 module _ (s : List ℕ) (c k : ℕ) where

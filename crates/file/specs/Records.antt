@@ -128,6 +128,14 @@ classicalOf s =
     (cond (eqb (registerForm s) 3) (SetOf (count s))
     (Definition (name s) (size s)))))
 
+-- "0 None, 1 All, 2 AllQubits, 3 Set, 4 definition": the form's number
+abbrev pub registerFormOf : InvolvedClassical → ℕ
+registerFormOf NoRegister = 0
+registerFormOf (AllOf n) = 1
+registerFormOf (AllQubits n) = 2
+registerFormOf (SetOf c) = 3
+registerFormOf (Definition n m) = 4
+
 -- "c entries (name 1 byte, index 2 bytes)": the key of entry k
 abbrev pub keyAt : List ℕ → ℕ → RegisterKey
 keyAt s k = record { name = entryName s k; index = entryIndex s k }

@@ -12,6 +12,7 @@ pub use pairs::record_at;
 pub use pairs::record_count;
 pub use records::parse_record;
 pub use records::qubit_form;
+pub use records::register_form;
 pub use records::register_key;
 pub use refusals::refusal_number;
 pub use refusals::refusal_value;

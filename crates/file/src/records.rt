@@ -5,7 +5,7 @@ ghost use Prim.Native.Nat.{_+_, _*_, _-_, _<_, _≤_};
 ghost use lib.Dec.{leb};
 ghost use lib.ListN.{length};
 ghost use Rattle.file.specs.Pairs.{numberAt};
-ghost use Rattle.file.specs.Records.{definitionRule, qubitRule, entryBefore, ascendFrom, setRule, tailRule, parseRecord, qubitsBy, classicalOf, keyAt, formOf};
+ghost use Rattle.file.specs.Records.{definitionRule, qubitRule, entryBefore, ascendFrom, setRule, tailRule, parseRecord, qubitsBy, classicalOf, keyAt, formOf, registerFormOf};
 use crate::InvolvedClassical;
 use crate::InvolvedQubits;
 use crate::Parsed;
@@ -193,6 +193,19 @@ pub fn qubit_form(qubits: InvolvedQubits) -> u8
         InvolvedQubits::None => 0,
         InvolvedQubits::All => 1,
         InvolvedQubits::Set(_) => 2,
+    }
+}
+
+// The register form's number.
+pub fn register_form(classical: InvolvedClassical) -> u8
+    ensures { λ r. ⌜ r ≡ registerFormOf classical ⌝ }
+{
+    match classical {
+        InvolvedClassical::None => 0,
+        InvolvedClassical::All(_) => 1,
+        InvolvedClassical::AllQubits(_) => 2,
+        InvolvedClassical::Set(_) => 3,
+        InvolvedClassical::Definition(_, _) => 4,
     }
 }
 
