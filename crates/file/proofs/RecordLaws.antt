@@ -11,7 +11,9 @@ use borrow.Author.Tests.{eqb-true, eqb-false, ne-eqb, eq-eqb, le-leb, lt-leb, le
 use Rattle.file.specs.Pairs.{numberAt, recordAt}
 use Rattle.file.specs.Records
 use Rattle.file.proofs.PairLaws.{field-past}
+use Rattle.file.specs.declared.Refusal.{Refusal}
 use Rattle.file.specs.declared.Refusal.the-variants.{BadRecord}
+use Rattle.file.specs.declared.Record.{Record}
 use Rattle.file.specs.declared.InvolvedQubits.{InvolvedQubits}
 use Rattle.file.specs.declared.InvolvedClassical.{InvolvedClassical}
 use Rattle.file.specs.declared.InvolvedClassical.the-variants.{None, All, AllQubits, Set, Definition}
@@ -96,6 +98,23 @@ exact-length s e = tail-length s (rule s e .tail)
 -- parsing depends on the record's bytes alone, whichever file they stand in and wherever
 pub same-bytes : (s t : List ℕ) (i j : ℕ) → recordAt s i ≡ recordAt t j → Records.parseRecord (recordAt s i) ≡ Records.parseRecord (recordAt t j)
 same-bytes s t i j e = ap Records.parseRecord e
+
+-- a record that parses keeps its rule, and one that does not breaks it
+pub parsed : (s : List ℕ) (r : Record) → Records.parseRecord s ≡ Parses r → (Records.recordRule s ≡ true) × (r ≡ Records.recordOf s)
+unfolding Records.parseRecord
+parsed s r e = told (Records.recordRule s) e
+  where
+    told : (b : Bool) → cond b (Parses (Records.recordOf s)) (Refused (BadRecord 0)) ≡ Parses r → (b ≡ true) × (r ≡ Records.recordOf s)
+    told true e = (refl, cc)
+    told false e = let z : _≡_ {A = ℕ} 0 1 = cc in absurd (omega arith)
+
+pub not-parsed : (s : List ℕ) (x : Refusal) → Records.parseRecord s ≡ Refused x → Records.recordRule s ≡ false
+unfolding Records.parseRecord
+not-parsed s x e = told (Records.recordRule s) e
+  where
+    told : (b : Bool) → cond b (Parses (Records.recordOf s)) (Refused (BadRecord 0)) ≡ Refused x → b ≡ false
+    told true e = let z : _≡_ {A = ℕ} 0 1 = cc in absurd (omega arith)
+    told false e = refl
 
 -- the form's number of what a record involves is the record's qubit form
 pub form-kept : (s : List ℕ) → Records.recordRule s ≡ true → Records.formOf (Records.qubitsOf s) ≡ Records.qubitForm s

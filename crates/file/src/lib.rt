@@ -7,6 +7,7 @@ mod refusals;
 pub use pairs::check_file;
 pub use pairs::locate_record;
 pub use pairs::pair_length;
+pub use pairs::pair_offset;
 pub use pairs::read_record;
 pub use pairs::record_at;
 pub use pairs::record_count;

@@ -2,7 +2,7 @@
 ghost use mathlib.Core.Path.{_≡_};
 ghost use Prim.Native.Nat.{_+_, _<_};
 ghost use lib.ListN.{length};
-ghost use Rattle.file.specs.Pairs.{numberAt, countOf, lengthOf, checkFile, locateRecord, Part};
+ghost use Rattle.file.specs.Pairs.{numberAt, countOf, offsetOf, lengthOf, checkFile, locateRecord, Part};
 use crate::FileCheck;
 use crate::Place;
 use crate::RecordPart;
@@ -41,6 +41,20 @@ pub fn record_count(file: &[u8]) -> usize
     ensures { λ r. ⌜ r ≡ countOf (now (file .entry)) ⌝ }
 {
     field_at(file, 0)
+}
+
+// The offset that pair k gives, of any bytes and any k.
+pub fn pair_offset(file: &[u8], k: usize) -> usize
+    ensures { λ r. ⌜ r ≡ offsetOf (now (file .entry)) k ⌝ }
+{
+    let size = file.len();
+    if size < 2 {
+        return 0;
+    }
+    if (size - 2) / 4 < k {
+        return 0;
+    }
+    field_at(file, 2 + 4 * k)
 }
 
 // The length that pair k gives, of any bytes and any k.

@@ -1,0 +1,528 @@
+-- The invariants of the loops that check a graph, and a law for each step. Assumes nothing.
+use mathlib.Core.Path.{_≡_, refl, sym, _∙_, ap}
+use mathlib.Core.Bool.{Bool, true, false, cond, not, _&&_, _||_}
+use mathlib.Core.Logic.{_⊎_, ⊎-elim}
+use mathlib.Core.List.{List, _∷_, map}
+use Prim.Native.Nat.{ℕ, zero, suc, _+_, _-_, _*_, _/_, _%_, _^_, _≤_, _<_}
+use native.Mathlib.Omega.{arith}
+use native.Mathlib.Decide.{decLt, ℕ-discrete}
+use lib.Dec.{eqb, ltb}
+use lib.IntN.{ℤ, pos, negsuc}
+use lib.Signed.{mag, nonNeg, ltZ}
+use lib.ListN.{length, getD, set, take, replicate, length-set, length-replicate, List·getD-eq-default}
+use lib.Seq.{getD-set-same, getD-set-other}
+use mir.Syntax.{w16}
+use mir.Val.{toZ, ofZ}
+use borrow.Author.Tests.{ltb-true, lt-ltb, eqb-true, eq-eqb}
+use Rattle.file.specs.Lists.{anyOf, allOf, distinct, upTo, members}
+use Rattle.graph.specs.declared.Edges.{Edges}
+use Rattle.graph.specs.declared.Registers.{Registers}
+use Rattle.graph.specs.Dag.{Edge, Entry, edgeAt, entryAt, entry, sameEdge, sameKey}
+use Rattle.graph.specs.Soundness.{ifPresent, samePlace, ascends, keysDistinct}
+use Rattle.graph.proofs.BoolLaws.{clash-bool, not-true, not-false, bool-ext, and-l, and-r, and-intro, or-cases, not-flip, split-lt}
+use Rattle.graph.proofs.BitLaws.{markAt, MarkedBits, bits-more, no-bits}
+use Rattle.graph.proofs.ListLaws.{at-all, all-at, all-here, all-fails, upTo-all, all-upTo, upTo-distinct, distinct-upTo, upTo-any, any-upTo, upTo-none, members-all, all-members}
+use Rattle.graph.proofs.PlaceLaws.{place-read}
+use Rattle.graph.proofs.SoundnessLaws.{same-told, told-same, ascends-taken, all-taken, taken-ascends, taken-all}
+
+-- ---- marks: the cells f 0 to f (i - 1) are marked, and no other
+
+pub record Marked (f : ℕ → ℕ) (i : ℕ) (marks : List Bool) : Type 0 where
+  pub done : (j : ℕ) → j < i → getD marks (f j) false ≡ true
+  pub only : (s : ℕ) → getD marks s false ≡ true → (j : ℕ) × (j < i) × (f j ≡ s)
+
+pub unmarked : (n s : ℕ) → getD (replicate n false) s false ≡ false
+unmarked zero s = refl
+unmarked (suc n) zero = refl
+unmarked (suc n) (suc s) = unmarked n s
+
+pub none-marked : (f : ℕ → ℕ) (n : ℕ) → Marked f 0 (replicate n false)
+none-marked f n = record { done = λ j k. absurd (omega arith); only = λ s e. absurd (clash-bool e (unmarked n s)) }
+
+pub mark-more : (f : ℕ → ℕ) (i : ℕ) (marks : List Bool) → f i < length marks → Marked f i marks → Marked f (i + 1) (set marks (f i) true)
+mark-more f i marks s m = record {
+  done = λ j k. elim (ℕ-discrete (f j) (f i)) [
+    | yes e ↦ rw e (getD-set-same marks (f i) true false s)
+    | no e ↦ ⊎-elim
+        (λ (q : j ≡ i). absurd (e (ap f q)))
+        (λ (q : j < i). getD-set-other marks (f i) (f j) true false e ∙ m .done j q)
+        (split-lt j i k)
+  ];
+  only = λ s h. elim (ℕ-discrete s (f i)) [
+    | yes e ↦ (i, omega arith, sym e)
+    | no e ↦ let r = m .only s (sym (getD-set-other marks (f i) s true false e) ∙ h) in (r .0, omega (arith, r .1), r .2)
+  ];
+}
+
+-- ---- operations
+
+abbrev pub operation : List ℕ → List ℕ → ℕ → Bool
+operation kind form u = (eqb (getD form u 0) 1 || eqb (getD form u 0) 2) && (eqb (getD kind u 0) 0 || eqb (getD kind u 0) 5)
+
+pub record Operations (kind form : List ℕ) (op : List Bool) (v : ℕ) : Type 0 where
+  pub low : v ≤ 512
+  pub long : length op ≡ 512
+  pub forms : length form ≡ 512
+  pub each : (u : ℕ) → u < v → getD op u false ≡ operation kind form u
+
+module _ {kind form : List ℕ} {op : List Bool} {v : ℕ} (I : Operations kind form op v) where
+  pub operations-more : (b : Bool) → v < 512 → b ≡ operation kind form v → Operations kind form (set op v b) (v + 1)
+  operations-more b k e = record {
+    low = omega arith;
+    long = length-set op v b ∙ I .long;
+    forms = I .forms;
+    each = λ u l. ⊎-elim
+        (λ (q : u ≡ v). rw q (getD-set-same op v b false (omega (arith, I .long)) ∙ e))
+        (λ (q : u < v). getD-set-other op v u b false (omega arith) ∙ I .each u q)
+        (split-lt u v l);
+  }
+
+  pub operations-done : 512 ≤ v → (u : ℕ) → getD op u false ≡ operation kind form u
+  operations-done k u = elim (decLt u 512) [
+    | yes b ↦ I .each u (omega arith)
+    | no b ↦ rw (List·getD-eq-default op false {n = u} (omega (arith, I .long)), List·getD-eq-default form 0 {n = u} (omega (arith, I .forms))) refl
+  ]
+
+-- ---- places
+
+abbrev pub placeAt : List ℤ → ℕ → ℤ
+placeAt l v = getD l v (pos 0)
+
+abbrev pub within : ℕ → ℕ → ℤ → Bool
+within backs fronts p = ltb (mag p) (cond (nonNeg p) backs fronts)
+
+abbrev pub slot : ℕ → ℕ → ℤ → ℕ
+slot backs fronts p = cond (within backs fronts p) (cond (nonNeg p) (mag p) (backs + mag p)) 512
+
+abbrev pub placesClause : List ℤ → ℕ → ℕ → ℕ → Bool
+placesClause l n backs fronts = distinct samePlace (map (λ (v : ℕ). getD l v (pos 0)) (upTo n))
+    && allOf (λ (p : ℤ). ltb (mag p) (cond (nonNeg p) backs fronts)) (map (λ (v : ℕ). getD l v (pos 0)) (upTo n))
+
+pub record Places (l : List ℤ) (n backs fronts : ℕ) (taken : List Bool) (v : ℕ) : Type 0 where
+  pub fit : n ≤ 512
+  pub ends : backs + fronts ≡ n
+  pub low : v ≤ n
+  pub long : length taken ≡ 512
+  pub inside : (u : ℕ) → u < v → within backs fronts (placeAt l u) ≡ true
+  pub marks : Marked (λ u. slot backs fronts (placeAt l u)) v taken
+  pub apart : (u w : ℕ) → u < w → w < v → placeAt l u ≡ placeAt l w → ⊥
+
+-- the slot of a place that was read from memory
+pub slot-read : (b f s : ℕ) (z : ℤ) → mag z < 32768 → s ≡ slot b f (toZ w16 (ofZ w16 z)) → s ≡ slot b f z
+slot-read b f s z h e = e ∙ ap (slot b f) (place-read z h)
+
+slot-low : (b f : ℕ) (p : ℤ) → b + f ≤ 512 → within b f p ≡ true → slot b f p < 512
+slot-low b f (pos a) h e = rw e (omega (arith, ltb-true a b e))
+slot-low b f (negsuc a) h e = rw e (omega (arith, ltb-true a f e))
+
+slot-out : (b f : ℕ) (p : ℤ) → within b f p ≡ false → slot b f p ≡ 512
+slot-out b f p e = rw e refl
+
+-- a slot has one place
+slot-place : (b f : ℕ) (p q : ℤ) → within b f p ≡ true → within b f q ≡ true → slot b f p ≡ slot b f q → p ≡ q
+slot-place b f (pos x) (pos y) h k e = let z : x ≡ y = rw (h, k) at e in ap pos z
+slot-place b f (pos x) (negsuc y) h k e = let z : x ≡ b + y = rw (h, k) at e in absurd (omega (arith, ltb-true x b h))
+slot-place b f (negsuc x) (pos y) h k e = let z : b + x ≡ y = rw (h, k) at e in absurd (omega (arith, ltb-true y b k))
+slot-place b f (negsuc x) (negsuc y) h k e =
+    let z : b + x ≡ b + y = rw (h, k) at e in
+    let w : x ≡ y = omega arith in
+    ap negsuc w
+
+module _ {l : List ℤ} {n backs fronts : ℕ} {taken : List Bool} {v : ℕ} (I : Places l n backs fronts taken v) where
+  abbrev P : ℕ → ℤ
+  P u = getD l u (pos 0)
+
+  abbrev W : ℤ → Bool
+  W p = ltb (mag p) (cond (nonNeg p) backs fronts)
+
+  pub place-outside : (s : ℕ) → v < n → s ≡ slot backs fronts (placeAt l v) → 512 ≤ s → false ≡ placesClause l n backs fronts
+  place-outside s k e o = sym (not-true (λ h.
+      let w = all-upTo W P n (and-r (distinct samePlace (map P (upTo n))) (allOf W (map P (upTo n))) h) v k in
+      absurd (omega (arith, e, slot-low backs fronts (placeAt l v) (omega (arith, I .fit, I .ends)) w))))
+
+  inside-here : (s : ℕ) → s ≡ slot backs fronts (placeAt l v) → s < 512 → within backs fronts (placeAt l v) ≡ true
+  inside-here s e o = not-false (λ w. absurd (omega (arith, e, slot-out backs fronts (placeAt l v) w)))
+
+  pub place-taken : (s : ℕ) → v < n → s ≡ slot backs fronts (placeAt l v) → s < 512 → getD taken s false ≡ true → false ≡ placesClause l n backs fronts
+  place-taken s k e o t = sym (not-true (λ h.
+      let r = I .marks .only s t in
+      let d = distinct-upTo samePlace P n (and-l (distinct samePlace (map P (upTo n))) (allOf W (map P (upTo n))) h) (r .0) v (r .1) k in
+      clash-bool (told-same (P (r .0)) (P v) (slot-place backs fronts (P (r .0)) (P v) (I .inside (r .0) (r .1)) (inside-here s e o) (r .2 ∙ e))) d))
+
+  pub place-more : (s : ℕ) → v < n → s ≡ slot backs fronts (placeAt l v) → s < 512 → getD taken s false ≡ false
+      → Places l n backs fronts (set taken s true) (v + 1)
+  place-more s k e o t = record {
+    fit = I .fit;
+    ends = I .ends;
+    low = omega arith;
+    long = length-set taken s true ∙ I .long;
+    inside = λ u m. ⊎-elim (λ (q : u ≡ v). rw q (inside-here s e o)) (λ (q : u < v). I .inside u q) (split-lt u v m);
+    marks = rw e (mark-more (λ u. slot backs fronts (placeAt l u)) v taken (omega (arith, e, I .long)) (I .marks));
+    apart = λ u w a m f. ⊎-elim
+        (λ (q : w ≡ v). clash-bool (I .marks .done u (omega arith)) (ap (λ (x : ℕ). getD taken x false) (ap (slot backs fronts) (f ∙ ap P q) ∙ sym e) ∙ t))
+        (λ (q : w < v). I .apart u w a q f)
+        (split-lt w v m);
+  }
+
+  pub places-done : n ≤ v → true ≡ placesClause l n backs fronts
+  places-done k = sym (and-intro (distinct samePlace (map P (upTo n))) (allOf W (map P (upTo n)))
+      (upTo-distinct samePlace P n (λ u w a m. not-true (λ e. I .apart u w a (omega arith) (same-told (P u) (P w) e))))
+      (upTo-all W P n (λ u m. I .inside u (omega arith))))
+
+-- ---- edges
+
+abbrev pub fromAt : Edges → ℕ → ℕ
+fromAt es i = getD (es .from) i 0
+
+abbrev pub toAt : Edges → ℕ → ℕ
+toAt es i = getD (es .to) i 0
+
+abbrev pub cellAt : Edges → ℕ → ℕ
+cellAt es i = fromAt es i * 512 + toAt es i
+
+abbrev pub edgeTest : ℕ → List ℤ → List Bool → ℕ → ℕ → Bool
+edgeTest n place op f t = ltb f n && ltb t n && (getD op f false && getD op t false && ltZ (getD place f (pos 0)) (getD place t (pos 0)))
+
+abbrev pub edgesList : Edges → List Edge
+edgesList es = map (edgeAt es) (upTo (es .count))
+
+-- some edge runs to v
+abbrev pub targetsOf : Edges → ℕ → Bool
+targetsOf es v = anyOf (λ (e : Edge). eqb (e .to) v) (map (edgeAt es) (upTo (es .count)))
+
+abbrev pub edgesClause : Edges → ℕ → List ℤ → List Bool → Bool
+edgesClause es n place op = distinct sameEdge (map (edgeAt es) (upTo (es .count)))
+    && allOf (λ (e : Edge). ltb (e .from) n && ltb (e .to) n && (getD op (e .from) false && getD op (e .to) false && ltZ (getD place (e .from) (pos 0)) (getD place (e .to) (pos 0)))) (map (edgeAt es) (upTo (es .count)))
+
+pub record EdgesPassed (es : Edges) (n : ℕ) (place : List ℤ) (op into : List Bool) (seen : List ℕ) (i : ℕ) : Type 0 where
+  pub room : es .count ≤ 2048
+  pub fit : n ≤ 512
+  pub low : i ≤ es .count
+  pub long : length seen ≡ 4096
+  pub broad : length into ≡ 512
+  pub each : (j : ℕ) → j < i → edgeTest n place op (fromAt es j) (toAt es j) ≡ true
+  pub marks : MarkedBits (cellAt es) i seen
+  pub targets : Marked (toAt es) i into
+  pub apart : (j k : ℕ) → j < k → k < i → fromAt es j ≡ fromAt es k → toAt es j ≡ toAt es k → ⊥
+
+-- a cell has one edge
+cell-from : (f t f′ t′ : ℕ) → t < 512 → t′ < 512 → f * 512 + t ≡ f′ * 512 + t′ → f ≡ f′
+cell-from f t f′ t′ h k e = omega arith
+
+cell-to : (f t f′ t′ : ℕ) → t < 512 → t′ < 512 → f * 512 + t ≡ f′ * 512 + t′ → t ≡ t′
+cell-to f t f′ t′ h k e = omega arith
+
+pub from-low : (n : ℕ) (place : List ℤ) (op : List Bool) (f t : ℕ) → edgeTest n place op f t ≡ true → f < n
+from-low n place op f t h =
+    let x = getD op f false && getD op t false && ltZ (getD place f (pos 0)) (getD place t (pos 0)) in
+    ltb-true f n (and-l (ltb f n) (ltb t n) (and-l (ltb f n && ltb t n) x h))
+
+pub to-low : (n : ℕ) (place : List ℤ) (op : List Bool) (f t : ℕ) → edgeTest n place op f t ≡ true → t < n
+to-low n place op f t h =
+    let x = getD op f false && getD op t false && ltZ (getD place f (pos 0)) (getD place t (pos 0)) in
+    ltb-true t n (and-r (ltb f n) (ltb t n) (and-l (ltb f n && ltb t n) x h))
+
+pub edges-begin : (es : Edges) (n : ℕ) (place : List ℤ) (op into : List Bool) → es .count ≤ 2048 → n ≤ 512 → into ≡ replicate 512 false
+    → EdgesPassed es n place op into (replicate 4096 0) 0
+edges-begin es n place op into r f e = record {
+  room = r;
+  fit = f;
+  low = omega arith;
+  long = length-replicate {A = ℕ} 4096 0;
+  broad = ap length e ∙ length-replicate 512 false;
+  each = λ j k. absurd (omega arith);
+  marks = no-bits (cellAt es) 4096;
+  targets = rw e (none-marked (toAt es) 512);
+  apart = λ j k a b. absurd (omega arith);
+}
+
+module _ {es : Edges} {n : ℕ} {place : List ℤ} {op into : List Bool} {seen : List ℕ} {i : ℕ} (I : EdgesPassed es n place op into seen i) where
+  abbrev ET : Edge → Bool
+  ET e = edgeTest n place op (e .from) (e .to)
+
+  pub edge-unfit : (f t : ℕ) → i < es .count → f ≡ fromAt es i → t ≡ toAt es i → edgeTest n place op f t ≡ false → false ≡ edgesClause es n place op
+  edge-unfit f t k p q e = sym (not-true (λ h.
+      let w = all-upTo ET (edgeAt es) (es .count) (and-r (distinct sameEdge (edgesList es)) (allOf ET (edgesList es)) h) i k in
+      let z : edgeTest n place op (fromAt es i) (toAt es i) ≡ false = rw (p, q) at e in
+      clash-bool w z))
+
+  pub edge-twice : (f t : ℕ) → i < es .count → f ≡ fromAt es i → t ≡ toAt es i → edgeTest n place op f t ≡ true → markAt seen (f * 512 + t) ≡ true
+      → false ≡ edgesClause es n place op
+  edge-twice f t k p q e s = sym (not-true (λ h.
+      let r = I .marks .only (f * 512 + t) s in
+      let j = r .0 in
+      let d = distinct-upTo sameEdge (edgeAt es) (es .count) (and-l (distinct sameEdge (edgesList es)) (allOf ET (edgesList es)) h) j i (r .1) k in
+      let a = to-low n place op (fromAt es j) (toAt es j) (I .each j (r .1)) in
+      let b = to-low n place op f t e in
+      let x : fromAt es j ≡ f = cell-from (fromAt es j) (toAt es j) f t (omega (arith, a, I .fit)) (omega (arith, b, I .fit)) (r .2) in
+      let y : toAt es j ≡ t = cell-to (fromAt es j) (toAt es j) f t (omega (arith, a, I .fit)) (omega (arith, b, I .fit)) (r .2) in
+      clash-bool (and-intro (eqb (fromAt es j) (fromAt es i)) (eqb (toAt es j) (toAt es i)) (eq-eqb _ _ (x ∙ p)) (eq-eqb _ _ (y ∙ q))) d))
+
+  pub edge-more : (f t : ℕ) → i < es .count → f ≡ fromAt es i → t ≡ toAt es i → edgeTest n place op f t ≡ true → markAt seen (f * 512 + t) ≡ false
+      → EdgesPassed es n place op (set into t true) (set seen ((f * 512 + t) / 64) (getD seen ((f * 512 + t) / 64) 0 + 2 ^ ((f * 512 + t) % 64))) (i + 1)
+  edge-more f t k p q e s =
+      let b = to-low n place op f t e in
+      let a = from-low n place op f t e in
+      let z : f * 512 + t ≡ cellAt es i = rw (← p, ← q) refl in
+      record {
+        room = I .room;
+        fit = I .fit;
+        low = omega arith;
+        long = length-set seen ((f * 512 + t) / 64) _ ∙ I .long;
+        broad = length-set into t true ∙ I .broad;
+        each = λ j m. ⊎-elim
+            (λ (x : j ≡ i). rw (x, ← p, ← q) e)
+            (λ (x : j < i). I .each j x)
+            (split-lt j i m);
+        marks = rw z (bits-more (cellAt es) i seen (omega (arith, z, a, b, I .fit, I .long)) (sym (ap (markAt seen) z) ∙ s) (I .marks));
+        targets = rw q (mark-more (toAt es) i into (omega (arith, q, b, I .fit, I .broad)) (I .targets));
+        apart = λ j m x y u v. ⊎-elim
+            (λ (w : m ≡ i).
+            let u′ : fromAt es j ≡ fromAt es i = u ∙ ap (fromAt es) w in
+            let v′ : toAt es j ≡ toAt es i = v ∙ ap (toAt es) w in
+            let c : cellAt es j ≡ f * 512 + t = rw (u′, v′, ← p, ← q) refl in
+            clash-bool (I .marks .done j (omega arith)) (ap (markAt seen) c ∙ s))
+            (λ (w : m < i). I .apart j m x w u v)
+            (split-lt m i y);
+      }
+
+  pub edges-done : es .count ≤ i → true ≡ edgesClause es n place op
+  edges-done k = sym (and-intro (distinct sameEdge (edgesList es)) (allOf ET (edgesList es))
+      (upTo-distinct sameEdge (edgeAt es) (es .count) (λ j m a b. not-true (λ e. I .apart j m a (omega arith)
+      (eqb-true _ _ (and-l (eqb (fromAt es j) (fromAt es m)) (eqb (toAt es j) (toAt es m)) e))
+      (eqb-true _ _ (and-r (eqb (fromAt es j) (fromAt es m)) (eqb (toAt es j) (toAt es m)) e)))))
+      (upTo-all ET (edgeAt es) (es .count) (λ j m. I .each j (omega arith))))
+
+  pub targets-done : es .count ≤ i → (v : ℕ) → getD into v false ≡ anyOf (λ (e : Edge). eqb (e .to) v) (map (edgeAt es) (upTo (es .count)))
+  targets-done k v = bool-ext (getD into v false) (anyOf (λ (e : Edge). eqb (e .to) v) (edgesList es))
+      (λ h. let r = I .targets .only v h in upTo-any (λ (e : Edge). eqb (e .to) v) (edgeAt es) (es .count) (r .0) (omega (arith, r .1, I .low)) (eq-eqb _ _ (r .2)))
+      (λ h. let r = any-upTo (λ (e : Edge). eqb (e .to) v) (edgeAt es) (es .count) h in
+      let x : toAt es (r .0) ≡ v = eqb-true (toAt es (r .0)) v (r .2) in
+      ap (λ (y : ℕ). getD into y false) (sym x) ∙ I .targets .done (r .0) (omega (arith, r .1)))
+
+-- ---- the names of an end
+
+abbrev pub nameTest : ℕ → List Bool → ℕ → Bool
+nameTest n op x = ifPresent (λ (v : ℕ). ltb v n && getD op v false) x
+
+pub record Names (node : List ℕ) (n : ℕ) (op : List Bool) (q : ℕ) : Type 0 where
+  pub fit : n ≤ 512
+  pub low : q ≤ 64
+  pub long : length node ≡ 64
+  pub each : (r : ℕ) → r < q → nameTest n op (getD node r 0) ≡ true
+
+pub head-unfit : (all : ℕ) (node : List ℕ) (n : ℕ) (op : List Bool) → nameTest n op all ≡ false → false ≡ allOf (nameTest n op) (all ∷ node)
+head-unfit all node n op e = sym (all-fails (nameTest n op) all node e)
+
+module _ {node : List ℕ} {n : ℕ} {op : List Bool} {q : ℕ} (I : Names node n op q) where
+  pub name-unfit : (all : ℕ) → q < 64 → nameTest n op (getD node q 0) ≡ false → false ≡ allOf (nameTest n op) (all ∷ node)
+  name-unfit all k e = sym (not-true (λ h. clash-bool (all-at (nameTest n op) (all ∷ node) 0 h (suc q) (omega (arith, I .long))) e))
+
+  pub name-more : q < 64 → nameTest n op (getD node q 0) ≡ true → Names node n op (q + 1)
+  name-more k e = record {
+    fit = I .fit;
+    low = omega arith;
+    long = I .long;
+    each = λ r m. ⊎-elim (λ (x : r ≡ q). rw x e) (λ (x : r < q). I .each r x) (split-lt r q m);
+  }
+
+  pub names-done : (all : ℕ) → nameTest n op all ≡ true → 64 ≤ q → true ≡ allOf (nameTest n op) (all ∷ node)
+  names-done all h k = sym (all-here (nameTest n op) all node h ∙ at-all (nameTest n op) node 0 (λ r m. I .each r (omega (arith, I .long))))
+
+-- ---- blocks
+
+pub record BlockPassed (block : List Bool) (n v : ℕ) : Type 0 where
+  pub fit : n ≤ 512
+  pub start : n ≤ v
+  pub low : v ≤ 512
+  pub long : length block ≡ 512
+  pub clear : (u : ℕ) → n ≤ u → u < v → getD block u false ≡ false
+
+pub mark-low : (l : List Bool) (u : ℕ) → getD l u false ≡ true → u < length l
+mark-low l u h = elim (decLt u (length l)) [ yes k ↦ k | no k ↦ absurd (clash-bool h (List·getD-eq-default l false {n = u} (omega arith))) ]
+
+module _ {block : List Bool} {n v : ℕ} (I : BlockPassed block n v) where
+  pub member-above : v < 512 → getD block v false ≡ true → false ≡ allOf (λ (v : ℕ). ltb v n) (members block)
+  member-above k e = sym (not-true (λ h. let z = ltb-true v n (all-members (λ (v : ℕ). ltb v n) block h v e) in absurd (omega (arith, z, I .start))))
+
+  pub block-more : v < 512 → getD block v false ≡ false → BlockPassed block n (v + 1)
+  block-more k e = record {
+    fit = I .fit;
+    start = omega (arith, I .start);
+    low = omega arith;
+    long = I .long;
+    clear = λ u a m. ⊎-elim (λ (x : u ≡ v). rw x e) (λ (x : u < v). I .clear u a x) (split-lt u v m);
+  }
+
+  pub block-done : 512 ≤ v → true ≡ allOf (λ (v : ℕ). ltb v n) (members block)
+  block-done k = sym (members-all (λ (v : ℕ). ltb v n) block (λ u e. elim (decLt u n) [
+    | yes l ↦ lt-ltb u n l
+    | no l ↦ absurd (clash-bool e (I .clear u (omega arith) (omega (arith, mark-low block u e, I .long))))
+  ]))
+
+abbrev pub startTest : List Bool → List Bool → ℕ → Bool
+startTest op into v = getD op v false && not (getD into v false)
+
+pub record FirstPassed (block op into : List Bool) (v : ℕ) : Type 0 where
+  pub low : v ≤ 512
+  pub long : length block ≡ 512
+  pub each : (u : ℕ) → u < v → (not (getD block u false) || startTest op into u) ≡ true
+
+module _ {block op into : List Bool} {v : ℕ} (I : FirstPassed block op into v) where
+  pub first-unfit : v < 512 → (not (getD block v false) || startTest op into v) ≡ false → false ≡ allOf (startTest op into) (members block)
+  first-unfit k e = sym (not-true (λ h.
+      let m : getD block v false ≡ true = not-false (λ (x : getD block v false ≡ false). let y : true ≡ false = rw x at e in clash-bool refl y) in
+      let y : startTest op into v ≡ false = rw m at e in
+      clash-bool (all-members (startTest op into) block h v m) y))
+
+  pub first-more : v < 512 → (not (getD block v false) || startTest op into v) ≡ true → FirstPassed block op into (v + 1)
+  first-more k e = record {
+    low = omega arith;
+    long = I .long;
+    each = λ u m. ⊎-elim (λ (x : u ≡ v). rw x e) (λ (x : u < v). I .each u x) (split-lt u v m);
+  }
+
+  pub first-done : 512 ≤ v → true ≡ allOf (startTest op into) (members block)
+  first-done k = sym (members-all (startTest op into) block (λ u e. ⊎-elim
+      (λ (x : not (getD block u false) ≡ true). absurd (clash-bool e (not-flip (getD block u false) x)))
+      (λ (x : startTest op into u ≡ true). x)
+      (or-cases (not (getD block u false)) (startTest op into u) (I .each u (omega (arith, mark-low block u e, I .long))))))
+
+-- ---- the commuting list: `low` is one more than the last entry passed, 0 before the first
+
+abbrev pub commutingClause : ℕ → List ℕ → ℕ → Bool
+commutingClause m l n = ascends (take m l) && allOf (λ (v : ℕ). ltb v n) (take m l)
+
+pub record Ascending (m : ℕ) (l : List ℕ) (n low i : ℕ) : Type 0 where
+  pub room : m ≤ 512
+  pub long : length l ≡ 512
+  pub passed : i ≤ m
+  pub below : (j : ℕ) → j < i → getD l j 0 < n
+  pub under : (j : ℕ) → j < i → getD l j 0 < low
+  pub rising : (j k : ℕ) → j < k → k < i → getD l j 0 < getD l k 0
+  pub last : 0 < low → (0 < i) × (low ≡ getD l (i - 1) 0 + 1)
+
+module _ {m : ℕ} {l : List ℕ} {n low i : ℕ} (I : Ascending m l n low i) where
+  abbrev B : ℕ → Bool
+  B v = ltb v n
+
+  pub entry-falls : (v : ℕ) → i < m → v ≡ getD l i 0 → v < low → false ≡ commutingClause m l n
+  entry-falls v k e o = sym (not-true (λ h.
+      let t = I .last (omega arith) in
+      let a = ascends-taken m l (omega (arith, I .room, I .long)) (and-l (ascends (take m l)) (allOf B (take m l)) h) (i - 1) i (omega (arith, t .0)) k in
+      absurd (omega (arith, a, t .1, e))))
+
+  pub entry-above : (v : ℕ) → i < m → v ≡ getD l i 0 → n ≤ v → false ≡ commutingClause m l n
+  entry-above v k e o = sym (not-true (λ h.
+      let a = all-taken m l B (omega (arith, I .room, I .long)) (and-r (ascends (take m l)) (allOf B (take m l)) h) i k in
+      absurd (omega (arith, ltb-true (getD l i 0) n a, e))))
+
+  pub entry-more : (v : ℕ) → i < m → v ≡ getD l i 0 → low ≤ v → v < n → Ascending m l n (v + 1) (i + 1)
+  entry-more v k e o b = record {
+    room = I .room;
+    long = I .long;
+    passed = omega arith;
+    below = λ j a. ⊎-elim (λ (x : j ≡ i). rw (x, ← e) b) (λ (x : j < i). I .below j x) (split-lt j i a);
+    under = λ j a. ⊎-elim (λ (x : j ≡ i). rw (x, ← e) (omega arith)) (λ (x : j < i). omega (arith, I .under j x)) (split-lt j i a);
+    rising = λ j h a c. ⊎-elim
+        (λ (x : h ≡ i). rw (x, ← e) (omega (arith, I .under j (omega arith))))
+        (λ (x : h < i). I .rising j h a x)
+        (split-lt h i c);
+    last = λ p. (omega arith, (let z : i + 1 - 1 ≡ i = omega arith in rw (z, ← e) refl));
+  }
+
+  pub entries-done : m ≤ i → true ≡ commutingClause m l n
+  entries-done k = sym (and-intro (ascends (take m l)) (allOf B (take m l))
+      (taken-ascends m l (λ j h a b. I .rising j h a (omega arith)))
+      (taken-all m l B (λ j a. lt-ltb _ _ (I .below j (omega arith)))))
+
+-- ---- register keys
+
+abbrev pub keyAt : List ℕ → List ℕ → ℕ → Entry
+keyAt name index j = entry (getD name j 0) (getD index j 0) 0
+
+abbrev pub keyTest : List ℕ → List ℕ → ℕ → Entry → Bool
+keyTest name index i x = sameKey x (entry (getD name i 0) (getD index i 0) 0)
+
+abbrev pub repeatedClause : List ℕ → List ℕ → ℕ → Bool
+repeatedClause name index i = anyOf (λ (x : Entry). sameKey x (entry (getD name i 0) (getD index i 0) 0)) (map (λ (j : ℕ). entry (getD name j 0) (getD index j 0) 0) (upTo i))
+
+pub record KeysPassed (name index : List ℕ) (i j : ℕ) : Type 0 where
+  pub fit : i < 256
+  pub low : j ≤ i
+  pub none : (k : ℕ) → k < j → keyTest name index i (keyAt name index k) ≡ false
+
+module _ {name index : List ℕ} {i j : ℕ} (I : KeysPassed name index i j) where
+  pub key-found : j < i → keyTest name index i (keyAt name index j) ≡ true → true ≡ repeatedClause name index i
+  key-found k e = sym (upTo-any (keyTest name index i) (keyAt name index) i j k e)
+
+  pub key-next : j < i → keyTest name index i (keyAt name index j) ≡ false → KeysPassed name index i (j + 1)
+  key-next k e = record {
+    fit = I .fit;
+    low = omega arith;
+    none = λ h m. ⊎-elim (λ (x : h ≡ j). rw x e) (λ (x : h < j). I .none h x) (split-lt h j m);
+  }
+
+  pub keys-none : i ≤ j → false ≡ repeatedClause name index i
+  keys-none k = sym (upTo-none (keyTest name index i) (keyAt name index) i (λ h m. I .none h (omega arith)))
+
+-- ---- register maps
+
+abbrev pub cellOf : Registers → ℕ → ℕ
+cellOf r j = (getD (r .name) j 0 * 256 + getD (r .index) j 0) % 2048
+
+abbrev pub registersClause : Registers → ℕ → Bool
+registersClause r n = keysDistinct r && allOf (λ (x : Entry). ltb (x .node) n) (map (entryAt r) (upTo (r .count)))
+
+pub record RegistersPassed (r : Registers) (n : ℕ) (cells : List Bool) (i : ℕ) : Type 0 where
+  pub room : r .count ≤ 256
+  pub low : i ≤ r .count
+  pub long : length cells ≡ 2048
+  pub below : (j : ℕ) → j < i → getD (r .node) j 0 < n
+  pub marks : Marked (cellOf r) i cells
+  pub apart : (j k : ℕ) → j < k → k < i → sameKey (entryAt r j) (entryAt r k) ≡ false
+
+module _ {r : Registers} {n : ℕ} {cells : List Bool} {i : ℕ} (I : RegistersPassed r n cells i) where
+  abbrev N : Entry → Bool
+  N x = ltb (x .node) n
+
+  abbrev rows : List Entry
+  rows = map (entryAt r) (upTo (r .count))
+
+  pub node-above : (v : ℕ) → i < r .count → v ≡ getD (r .node) i 0 → n ≤ v → false ≡ registersClause r n
+  node-above v k e o = sym (not-true (λ h.
+      let a = all-upTo N (entryAt r) (r .count) (and-r (keysDistinct r) (allOf N rows) h) i k in
+      absurd (omega (arith, ltb-true (getD (r .node) i 0) n a, e))))
+
+  pub key-taken : (c : ℕ) → i < r .count → (getD cells c false && repeatedClause (r .name) (r .index) i) ≡ true → false ≡ registersClause r n
+  key-taken c k e = sym (not-true (λ h.
+      let t = any-upTo (keyTest (r .name) (r .index) i) (keyAt (r .name) (r .index)) i (and-r (getD cells c false) (repeatedClause (r .name) (r .index) i) e) in
+      clash-bool (t .2) (distinct-upTo sameKey (entryAt r) (r .count) (and-l (keysDistinct r) (allOf N rows) h) (t .0) i (t .1) k)))
+
+  pub key-new : (c v : ℕ) → i < r .count → c ≡ cellOf r i → v ≡ getD (r .node) i 0 → v < n
+      → (getD cells c false && repeatedClause (r .name) (r .index) i) ≡ false → RegistersPassed r n (set cells c true) (i + 1)
+  key-new c v k e w b s = record {
+    room = I .room;
+    low = omega arith;
+    long = length-set cells c true ∙ I .long;
+    below = λ j m. ⊎-elim (λ (x : j ≡ i). rw (x, ← w) b) (λ (x : j < i). I .below j x) (split-lt j i m);
+    marks = rw e (mark-more (cellOf r) i cells (omega (arith, I .long)) (I .marks));
+    apart = λ j h a m. ⊎-elim
+        (λ (x : h ≡ i). ap (λ (y : ℕ). sameKey (entryAt r j) (entryAt r y)) x ∙ new j (omega arith))
+        (λ (x : h < i). I .apart j h a x)
+        (split-lt h i m);
+  }
+    where
+      new : (j : ℕ) → j < i → sameKey (entryAt r j) (entryAt r i) ≡ false
+      new j m = not-true (λ t.
+          let x : getD (r .name) j 0 ≡ getD (r .name) i 0 = eqb-true _ _ (and-l (eqb (getD (r .name) j 0) (getD (r .name) i 0)) (eqb (getD (r .index) j 0) (getD (r .index) i 0)) t) in
+          let y : getD (r .index) j 0 ≡ getD (r .index) i 0 = eqb-true _ _ (and-r (eqb (getD (r .name) j 0) (getD (r .name) i 0)) (eqb (getD (r .index) j 0) (getD (r .index) i 0)) t) in
+          let z : cellOf r j ≡ c = rw (x, y) (sym e) in
+          let d : getD cells c false ≡ true = sym (ap (λ (y : ℕ). getD cells y false) z) ∙ I .marks .done j m in
+          clash-bool (and-intro (getD cells c false) (repeatedClause (r .name) (r .index) i) d
+          (upTo-any (keyTest (r .name) (r .index) i) (keyAt (r .name) (r .index)) i j m t)) s)
+
+  pub registers-done : r .count ≤ i → true ≡ registersClause r n
+  registers-done k = sym (and-intro (keysDistinct r) (allOf N rows)
+      (upTo-distinct sameKey (entryAt r) (r .count) (λ j h a m. I .apart j h a (omega arith)))
+      (upTo-all N (entryAt r) (r .count) (λ j m. lt-ltb _ _ (I .below j (omega arith)))))

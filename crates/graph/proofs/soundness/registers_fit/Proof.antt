@@ -1,0 +1,89 @@
+-- `graph::soundness::registers_fit` meets its contract. Assumes nothing.
+use mathlib.Core.Path.{refl, sym, _∙_}
+use Prim.Native.Nat.{_-_}
+use native.Mathlib.Omega.{arith}
+use borrow.Author.Needs.{needs}
+use Rattle.graph.proofs.CheckLaws.{RegistersPassed, none-marked, node-above, key-taken, key-new, registers-done}
+use Rattle.graph.proofs.soundness.registers_fit.Statement.{statement}
+use Rattle.graph.proofs.soundness.registers_fit.Tie as tie
+
+abbrev Inv-loop : tie.InvT-loop
+Inv-loop n r cells₀ name index m i₀ cells i = RegistersPassed r n cells i
+
+abbrev μ-loop : tie.MeasureT-loop
+μ-loop n r cells₀ name index m i₀ cells i = r .count - i
+
+loop-holds : tie.Need-loop-holds Inv-loop μ-loop
+loop-holds c = record { room = c .before .before .pre; low = omega arith; long = refl; below = λ j k. absurd (omega arith); marks = none-marked _ 2048; apart = λ j k a b. absurd (omega arith) }
+
+mul-wide : tie.Need-mul-wide Inv-loop μ-loop
+mul-wide c = search needs
+
+element-copy-out-wide : tie.Need-element-copy-out-wide Inv-loop μ-loop
+element-copy-out-wide c = search needs
+
+wide-requires : tie.Need-wide-requires Inv-loop μ-loop
+wide-requires c κs = search needs
+
+returns : tie.Need-returns Inv-loop μ-loop
+returns c = node-above (c .before .before .before .before .loop .inv) _ (c .before .before .before .loop-test .taken) (c .before .wide .ensures) (c .if1 .taken)
+
+array-read-cell-of : tie.Need-array-read-cell-of Inv-loop μ-loop
+array-read-cell-of c = search needs
+
+mul-cell-of : tie.Need-mul-cell-of Inv-loop μ-loop
+mul-cell-of c = search needs
+
+array-read-cell-of-2 : tie.Need-array-read-cell-of-2 Inv-loop μ-loop
+array-read-cell-of-2 c = search needs
+
+cell-of-requires : tie.Need-cell-of-requires Inv-loop μ-loop
+cell-of-requires c κs = search needs
+
+array-read-is-taken : tie.Need-array-read-is-taken Inv-loop μ-loop
+array-read-is-taken c = search needs
+
+is-taken-requires : tie.Need-is-taken-requires Inv-loop μ-loop
+is-taken-requires c κs = omega (arith, c .before .before .before .before .before .before .before .loop .inv .room, c .before .before .before .before .before .before .loop-test .taken)
+
+returns-2 : tie.Need-returns-2 Inv-loop μ-loop
+returns-2 c = key-taken (c .before .before .before .before .before .before .before .before .before .loop .inv) _ (c .before .before .before .before .before .before .before .before .loop-test .taken) (sym (c .before .is-taken .ensures) ∙ c .if2 .taken)
+
+array-write-cells : tie.Need-array-write-cells Inv-loop μ-loop
+array-write-cells c = search needs
+
+add-i : tie.Need-add-i Inv-loop μ-loop
+add-i c = search needs
+
+loop-less : tie.Need-loop-less Inv-loop μ-loop
+loop-less c = search needs
+
+loop-again : tie.Need-loop-again Inv-loop μ-loop
+loop-again c = key-new (c .before .before .before .before .before .before .before .before .before .loop .inv) _ _ (c .before .before .before .before .before .before .before .before .loop-test .taken) (c .before .before .before .before .cell-of .ensures) (c .before .before .before .before .before .before .wide .ensures) (c .before .before .before .before .before .if1 .left) (sym (c .before .is-taken .ensures) ∙ c .if2 .left)
+
+returns-3 : tie.Need-returns-3 Inv-loop μ-loop
+returns-3 c = registers-done (c .before .loop .inv) (c .loop-test .left)
+
+pub registers-fit-spec : {M : Type 1} → statement M
+registers-fit-spec =
+    tie.close
+    (tie.spec
+    Inv-loop
+    μ-loop
+    loop-holds
+    mul-wide
+    element-copy-out-wide
+    wide-requires
+    returns
+    array-read-cell-of
+    mul-cell-of
+    array-read-cell-of-2
+    cell-of-requires
+    array-read-is-taken
+    is-taken-requires
+    returns-2
+    array-write-cells
+    add-i
+    loop-less
+    loop-again
+    returns-3)

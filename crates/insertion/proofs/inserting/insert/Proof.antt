@@ -1,0 +1,21 @@
+-- `insertion::inserting::insert` meets its contract. Assumes nothing.
+use mathlib.Core.Path.{_≡_, refl, sym, _∙_, ap}
+use Rattle.insertion.proofs.InsertLaws.{sound-inserts, unsound-refuses}
+use borrow.Author.Needs.{needs}
+use Rattle.insertion.proofs.inserting.insert.Statement.{statement}
+use Rattle.insertion.proofs.inserting.insert.Tie as tie
+
+is-sound-requires : tie.Need-is-sound-requires
+is-sound-requires c κs = search needs
+
+insert-sound-requires : tie.Need-insert-sound-requires
+insert-sound-requires c κs = sym (c .before .is-sound .ensures) ∙ c .if1 .taken
+
+returns : tie.Need-returns
+returns c = c .insert-sound .ensures ∙ sound-inserts _ _ (sym (c .before .before .is-sound .ensures) ∙ c .before .if1 .taken)
+
+returns-2 : tie.Need-returns-2
+returns-2 c = unsound-refuses _ _ (sym (c .before .is-sound .ensures) ∙ c .if1 .left)
+
+pub insert-spec : {M : Type 1} → statement M
+insert-spec = tie.close (tie.spec is-sound-requires insert-sound-requires returns returns-2)

@@ -1,0 +1,44 @@
+-- `insertion::links::join_end` meets its contract. Assumes nothing.
+use Rattle.insertion.proofs.JoinLaws.{joined-nothing}
+use borrow.Author.Needs.{needs}
+use Rattle.insertion.proofs.links.join_end.Statement.{statement}
+use Rattle.insertion.proofs.links.join_end.Tie as tie
+
+enum-told : tie.Need-enum-told
+enum-told c = search needs
+
+enum-told-2 : tie.Need-enum-told-2
+enum-told-2 c = search needs
+
+join-all-requires : tie.Need-join-all-requires
+join-all-requires c κs = search needs
+
+enum-known-qubits : tie.Need-enum-known-qubits
+enum-known-qubits c = search needs
+
+join-set-requires : tie.Need-join-set-requires
+join-set-requires c κs = search needs
+
+returns : tie.Need-returns
+returns c =
+    let p = c .before .before .pre in
+    rw (c .enum-told .given .1) (joined-nothing _ _ _ _ _ _ _ _ (p .2) (p .3) (p .1))
+
+returns-2 : tie.Need-returns-2
+returns-2 c = rw (c .before .before .before .before .before .before .enum-told2 .given .1) (c .join-all .ensures)
+
+returns-3 : tie.Need-returns-3
+returns-3 c = rw (c .before .before .before .before .before .before .before .qubits .given .1) (c .join-set .ensures)
+
+pub join-end-spec : {M : Type 1} → statement M
+join-end-spec =
+    tie.close
+    (tie.spec
+    enum-told
+    enum-told-2
+    join-all-requires
+    enum-known-qubits
+    join-set-requires
+    returns
+    returns-2
+    returns-3)

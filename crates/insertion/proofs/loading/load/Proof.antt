@@ -1,0 +1,47 @@
+-- `insertion::loading::load` meets its contract. Assumes nothing.
+use Rattle.insertion.proofs.LoadLaws.{bad-file, all-in-order, whole}
+use mathlib.Core.Path.{_≡_, refl, sym, _∙_, ap}
+use borrow.Author.Needs.{needs}
+use Rattle.insertion.proofs.loading.load.Statement.{statement}
+use Rattle.insertion.proofs.loading.load.Tie as tie
+
+check-file-requires : tie.Need-check-file-requires
+check-file-requires c κs = search needs
+
+enum-known-found : tie.Need-enum-known-found
+enum-known-found c = search needs
+
+not-loaded-requires : tie.Need-not-loaded-requires
+not-loaded-requires c κs = search needs
+
+enum-told : tie.Need-enum-told
+enum-told c = search needs
+
+record-count-requires : tie.Need-record-count-requires
+record-count-requires c κs = search needs
+
+file-order-requires : tie.Need-file-order-requires
+file-order-requires c κs = search needs
+
+insert-in-order-requires : tie.Need-insert-in-order-requires
+insert-in-order-requires c κs = all-in-order _ _ _ (c .before .file-order .ensures) (c .before .before .record-count .ensures) (sym (c .before .before .before .before .before .check-file .ensures) ∙ c .before .before .before .enum-told .given .1)
+
+returns : tie.Need-returns
+returns c = c .not-loaded .ensures ∙ bad-file _ _ (sym (c .before .before .before .before .check-file .ensures) ∙ c .before .before .found .given .1)
+
+returns-2 : tie.Need-returns-2
+returns-2 c = c .insert-in-order .ensures ∙ whole _ _ _ (c .before .before .file-order .ensures) (c .before .before .before .record-count .ensures) (sym (c .before .before .before .before .before .before .check-file .ensures) ∙ c .before .before .before .before .enum-told .given .1)
+
+pub load-spec : {M : Type 1} → statement M
+load-spec =
+    tie.close
+    (tie.spec
+    check-file-requires
+    enum-known-found
+    not-loaded-requires
+    enum-told
+    record-count-requires
+    file-order-requires
+    insert-in-order-requires
+    returns
+    returns-2)

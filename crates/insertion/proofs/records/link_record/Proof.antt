@@ -1,0 +1,24 @@
+-- `insertion::records::link_record` meets its contract. Assumes nothing.
+use Rattle.insertion.proofs.GrowLaws.{no-room, room}
+use borrow.Author.Needs.{needs}
+use Rattle.insertion.proofs.records.link_record.Statement.{statement}
+use Rattle.insertion.proofs.records.link_record.Tie as tie
+
+join-record-requires : tie.Need-join-record-requires
+join-record-requires c κs = search needs
+
+add-total : tie.Need-add-total
+add-total c = search needs
+
+returns : tie.Need-returns
+returns c = (no-room _ _ _ _ _ _ _ _ _ (c .before .before .before .join-record .ensures) _ _ _ (c .if1 .taken), c .before .before .before .join-record .ensures .size)
+
+add-edges-requires : tie.Need-add-edges-requires
+add-edges-requires c κs = search needs
+
+returns-2 : tie.Need-returns-2
+returns-2 c = (room _ _ _ _ _ _ _ _ _ (c .before .before .before .before .before .before .before .join-record .ensures) _ _ _ (c .add-edges .ensures), c .before .before .before .before .before .before .before .join-record .ensures .size)
+
+pub link-record-spec : {M : Type 1} → statement M
+link-record-spec =
+    tie.close (tie.spec join-record-requires add-total returns add-edges-requires returns-2)

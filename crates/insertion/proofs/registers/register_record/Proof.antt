@@ -1,0 +1,21 @@
+-- `insertion::registers::register_record` meets its contract. At the front first is near, at the back last. Assumes nothing.
+use Rattle.insertion.proofs.RegisterLaws.{at-front, at-back}
+use borrow.Author.Needs.{needs}
+use Rattle.insertion.proofs.registers.register_record.Statement.{statement}
+use Rattle.insertion.proofs.registers.register_record.Tie as tie
+
+join-registers-requires : tie.Need-join-registers-requires
+join-registers-requires c κs = search needs
+
+returns : tie.Need-returns
+returns c = at-front _ _ _ _ _ _ _ _ (c .before .before .before .before .before .before .before .before .before .if1 .taken) (c .join-registers .ensures)
+
+join-registers-requires-2 : tie.Need-join-registers-requires-2
+join-registers-requires-2 c κs = search needs
+
+returns-2 : tie.Need-returns-2
+returns-2 c = at-back _ _ _ _ _ _ _ _ (c .before .before .before .before .before .before .before .before .before .if1 .left) (c .join-registers2 .ensures)
+
+pub register-record-spec : {M : Type 1} → statement M
+register-record-spec =
+    tie.close (tie.spec join-registers-requires returns join-registers-requires-2 returns-2)

@@ -1,0 +1,9 @@
+pub mod Registers
+pub mod Insertion
+pub mod Limits
+pub mod Load
+pub mod Calls
+pub mod Ends
+pub mod RegisterMaps
+pub mod Arrays
+pub mod Built

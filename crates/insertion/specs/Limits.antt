@@ -1,0 +1,44 @@
+-- An insertion with its refusals: "Order: 11, .. then per record 4 to 7". Assumes nothing.
+use mathlib.Core.Bool.{Bool, cond, not, _||_}
+use mathlib.Core.List.{List}
+use Prim.Native.Nat.{ℕ, _+_}
+use lib.Dec.{ltb, leb}
+use lib.ListN.{length}
+use Rattle.file.specs.Records.{front, recordRule}
+use Rattle.file.specs.declared.Refusal.{Refusal}
+use Rattle.file.specs.declared.Refusal.the-variants.{BadRecord, TooManyNodes, TooManyEdges, TooManyRegisters, Unsound}
+use Rattle.graph.specs.declared.CircuitDag.{CircuitDag}
+use Rattle.insertion.specs.declared.Answer.the-variants.{Node, Refused}
+use Rattle.insertion.specs.declared.Inserted.{Inserted}
+use Rattle.graph.specs.Dag.{node, size}
+use Rattle.insertion.specs.Insertion.{FarRule, nearAll, facing, linked, registered, grown}
+use Rattle.graph.specs.Soundness.{sound}
+
+-- "left as it was: graph"
+abbrev pub refused : Refusal → CircuitDag → Inserted
+refused r g = record { answer = Refused r; graph = g }
+
+-- "distinct edges would pass 2,048"
+abbrev pub edgesPass : FarRule → CircuitDag → List ℕ → Bool
+edgesPass rule g s = ltb 2048 (g .edges .count + length (linked rule (facing (front s) g) s .others))
+
+-- "a register map would pass 256"
+abbrev pub registersPass : CircuitDag → List ℕ → Bool
+registersPass g s = let r = registered (facing (front s) g) s in ltb 256 (length (r .near)) || ltb 256 (length (r .far))
+
+-- the record s, which is record i of its file, on a sound graph: "then per record 4 to 7"
+unfoldable pub insertAs : FarRule → ℕ → CircuitDag → List ℕ → Inserted
+insertAs rule i g s =
+    cond (not (recordRule s)) (refused (BadRecord i) g)
+    (cond (leb 512 (size g)) (refused TooManyNodes g)
+    (cond (edgesPass rule g s) (refused (TooManyEdges i) g)
+    (cond (registersPass g s) (refused (TooManyRegisters i) g)
+    (record { answer = Node (node (size g)); graph = grown rule g s }))))
+
+-- one call: "graph isn't sound" comes first; "record (0 on insertion)"
+abbrev pub insertWith : FarRule → CircuitDag → List ℕ → Inserted
+insertWith rule g s = cond (sound g) (insertAs rule 0 g s) (refused Unsound g)
+
+-- document 01's insertion
+unfoldable pub insertOf : CircuitDag → List ℕ → Inserted
+insertOf g s = insertWith nearAll g s
