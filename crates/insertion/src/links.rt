@@ -17,8 +17,8 @@ use graph::Qubit;
 // The numbers of one end beside its arrays: the all-qubit node, a bound above which no qubit is mapped, and whether the
 // block has a node.
 pub(crate) struct EndState {
-    pub all: NodeIndex,
     pub top: usize,
+    pub all: NodeIndex,
     pub some: bool,
 }
 
