@@ -6,3 +6,7 @@ pub mod SizeLaws
 pub mod SoundnessLaws
 pub mod CheckLaws
 pub mod AnswerLaws
+pub mod MarkLaws
+pub mod BufferLaws
+pub mod ReachLaws
+pub mod QueryLaws

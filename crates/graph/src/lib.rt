@@ -1,8 +1,14 @@
 // The circuit dependency graph with two open ends: its types, and which graphs are sound. The rules are in specs/.
 // Every array holds plain numbers, so that a part of the graph can be lent to a function in place.
 
+mod queries;
 pub mod soundness;
 
+use file::Refusal;
+pub use queries::blocking_predecessors;
+pub use queries::execution_blocked;
+pub use queries::new_front_layer;
+pub use queries::successors;
 pub use soundness::is_sound;
 ghost use mathlib.Core.Path.{_≡_};
 ghost use Rattle.graph.specs.Dag.{noEnd, noRegisters, empty};
@@ -47,6 +53,12 @@ pub struct Registers {
 pub struct Commuting {
     pub count: usize,
     pub list: [u16; 512],
+}
+
+// What a query answers: how many entries it wrote to the lent buffer.
+pub enum Query {
+    Entries(usize),
+    Refused(Refusal),
 }
 
 pub struct CircuitDag {

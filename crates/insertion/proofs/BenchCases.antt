@@ -1,4 +1,4 @@
--- Cases 2 to 7 and 10 of document 01's bench table, as far as insertion decides them, and B All, B All, B{3}, where the
+-- Cases 2 to 10 of document 01's bench table, as far as insertion and the queries decide them, and B All, B All, B{3}, where the
 -- far entry of a new qubit tells lastAll from firstAll. By computing the rules. Assumes nothing.
 use mathlib.Core.Path.{_≡_, refl}
 use mathlib.Core.List.{List, [], _∷_, map}
@@ -10,7 +10,10 @@ use Rattle.file.specs.Pairs.{numberAt}
 use Rattle.file.specs.Records.{definitionRule, qubitRule, entryBefore, ascendFrom, setRule, tailRule, recordRule, qubitsBy, classicalOf}
 use Rattle.graph.specs.declared.CircuitDag.{CircuitDag}
 use Rattle.graph.specs.Dag.{Node, absent, edge, entry, nodesOf, edgesOf, entriesOf, atQubit, noEnd, noRegisters, empty}
+use Rattle.graph.specs.declared.Query.the-variants.{Entries}
 use Rattle.graph.specs.Soundness.{ascends, sound}
+use Rattle.graph.specs.Reach.{reachedBy, blocking}
+use Rattle.graph.specs.Queries.{remove, layerAfter, newFrontLayer}
 use Rattle.insertion.specs.Registers.{put, define, setKeys, registersAfter}
 use Rattle.insertion.specs.Insertion.{qubitsFrom, linkQubits, linkSet, mapped, linkAll, grown}
 use Rattle.insertion.specs.Limits.{insertAs, insertOf}
@@ -18,7 +21,7 @@ use Rattle.insertion.specs.Calls.{graphAfter, final}
 
 -- a declaration that says `unfolding rules` computes with every rule of insertion
 unfoldable pub rules : ℕ
-unfolding numberAt anyOf allOf keep distinct countFrom markedFrom definitionRule qubitRule entryBefore ascendFrom setRule tailRule recordRule qubitsBy classicalOf noEnd noRegisters empty ascends sound put define setKeys registersAfter qubitsFrom linkQubits linkSet mapped linkAll grown insertAs insertOf graphAfter
+unfolding numberAt anyOf allOf keep distinct countFrom markedFrom definitionRule qubitRule entryBefore ascendFrom setRule tailRule recordRule qubitsBy classicalOf noEnd noRegisters empty ascends sound put define setKeys registersAfter qubitsFrom linkQubits linkSet mapped linkAll grown insertAs insertOf graphAfter reachedBy blocking remove layerAfter newFrontLayer
 rules = 0
 
 -- "numbers in braces are qubits": a record of kind 0, label 0, on qubits below 8
@@ -53,6 +56,19 @@ NameSet n i = 0 ∷ 0 ∷ 0 ∷ 0 ∷ 0 ∷ 0 ∷ 0 ∷ 0 ∷ 0 ∷ 0 ∷ 0 ∷ 
 case-2 : edgesOf (final (B (0 ∷ []) ∷ B (1 ∷ []) ∷ B (0 ∷ 1 ∷ []) ∷ [])) ≡ edge 0 2 ∷ edge 1 2 ∷ []
 unfolding rules
 case-2 = refl
+
+abbrev case2 : CircuitDag
+case2 = final (B (0 ∷ []) ∷ B (1 ∷ []) ∷ B (0 ∷ 1 ∷ []) ∷ [])
+
+-- "8. On 2, layer 0 1, nothing executed, node 0: layer stays 0 1."
+case-8 : newFrontLayer case2 [] (0 ∷ 1 ∷ []) 0 (9 ∷ 9 ∷ []) ≡ record { answer = Entries 2; buffer = 0 ∷ 1 ∷ [] }
+unfolding rules
+case-8 = refl
+
+-- "9. On 2, layer 0 1, executed 0, node 1: layer 0 2."
+case-9 : newFrontLayer case2 (0 ∷ []) (0 ∷ 1 ∷ []) 1 (9 ∷ 9 ∷ []) ≡ record { answer = Entries 2; buffer = 0 ∷ 2 ∷ [] }
+unfolding rules
+case-9 = refl
 
 -- "3. B All: qubit 0 to node 0 in both maps."
 case-3 : (final (BAll ∷ []) .first .node ≡ 0 ∷ replicate 63 absent) × (final (BAll ∷ []) .last .node ≡ 0 ∷ replicate 63 absent)

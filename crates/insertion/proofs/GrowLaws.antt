@@ -10,9 +10,9 @@ use lib.ListN.{length, take, set, getD, length-take}
 use borrow.Author.Tests.{le-ltb, lt-ltb, le-leb, lt-leb}
 use Rattle.file.specs.Records
 use Rattle.file.specs.Records.{front, qubitForm, qubitsOf, formOf, registerFormOf, classicalOf, defines, recordRule, recordOf}
-use Rattle.file.specs.declared.InvolvedQubits.{InvolvedQubits}
 use Rattle.file.specs.declared.InvolvedClassical.{InvolvedClassical}
 use Rattle.file.proofs.RecordLaws.{form-kept, register-kept}
+use Rattle.insertion.proofs.LinkLaws.{linked-at}
 use Rattle.insertion.proofs.RegisterLaws.{ends-fit}
 use Rattle.file.specs.declared.Refusal.{Refusal}
 use Rattle.file.specs.declared.Record.{Record}
@@ -92,10 +92,6 @@ refused i bytes g x a r e h = record {
 pub broken : (i : ℕ) (bytes : List ℕ) (g : CircuitDag) (x : RecordInserted) (a : Arrays) → recordRule bytes ≡ false → x .answer ≡ Refused (BadRecord i) → Grows i bytes g x a
 unfolding insertAs
 broken i bytes g x a h e = refused i bytes g x a (BadRecord i) e (rw h refl)
-
-linked-at : (b : Bool) (g : CircuitDag) (q : InvolvedQubits) → linkBy q nearAll (size (facing b g)) (facing b g .last) (facing b g .first) ≡ linkAt b q (size g) (g .first) (g .last)
-linked-at true g q = refl
-linked-at false g q = refl
 
 -- the rule on the register maps of a graph, near being last at the back
 abbrev registeredAt : Bool → CircuitDag → List ℕ → Maps
@@ -233,7 +229,7 @@ module _ (i : ℕ) (bytes : List ℕ) (s : GraphState) (a : Arrays) (r : Record)
     own-links = subst (λ (q : Record). Links q l a′) is links
 
     passes : (b : Bool) → ltb 2048 (l .edges) ≡ b → edgesPass nearAll g bytes ≡ b
-    passes b h = rw (linked-at (front bytes) g (qubitsOf bytes), ← own-links .count) h
+    passes b h = rw (linked-at (front bytes) g bytes, ← own-links .count) h
 
     pub over : (x : RecordInserted) → 2048 < l .edges → x .answer ≡ Refused (TooManyEdges i) → Grows i bytes g x a′
     over x h p = refused i bytes g x a′ _ p (is-over i bytes g keeps free (passes true (lt-ltb _ _ h)))

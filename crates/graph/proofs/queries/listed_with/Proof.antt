@@ -1,0 +1,19 @@
+use Rattle.graph.proofs.MarkLaws.{lists-with}
+use borrow.Author.Needs.{needs}
+use Rattle.graph.proofs.queries.listed_with.Statement.{statement}
+use Rattle.graph.proofs.queries.listed_with.Tie as tie
+use Rattle.graph.proofs.queries.listed_with.Reads as reads
+use Rattle.graph.proofs.queries.listed_with.Lts as lts
+use Rattle.graph.proofs.queries.listed.Reads as listed-reads
+
+listed-requires : tie.Need-listed-requires
+listed-requires c κs = search needs
+
+array-write-r : tie.Need-array-write-r
+array-write-r c = search needs
+
+returns : tie.Need-returns
+returns c = lists-with _ _ _ (c .listed .ensures) (c .before .before .pre)
+
+pub listed-with-spec : {M : Type 1} → statement M
+listed-with-spec = tie.close (tie.spec listed-requires array-write-r returns)

@@ -1,0 +1,13 @@
+use Rattle.graph.specs.Marks.{noNode}
+use borrow.Author.Needs.{needs}
+use Rattle.graph.proofs.queries.none.Statement.{statement}
+use Rattle.graph.proofs.queries.none.Tie as tie
+use Rattle.graph.proofs.queries.none.Reads as reads
+use Rattle.graph.proofs.queries.none.Lts as lts
+
+returns : tie.Need-returns
+unfolding noNode
+returns c = search needs
+
+pub none-spec : {M : Type 1} → statement M
+none-spec = tie.close (tie.spec returns)

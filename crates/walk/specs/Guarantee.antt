@@ -1,0 +1,128 @@
+-- Demand 3, the statement: "a single claim about the whole list, not one for each call". Everything it says is in this file and in the rules it names.
+use mathlib.Core.Path.{_≡_}
+use mathlib.Core.Bool.{Bool, true, false, cond, not, _&&_, _||_}
+use mathlib.Core.List.{List, [], _∷_, _++_, map}
+use Prim.Native.Nat.{ℕ, _+_, _≤_, _<_, zero, suc}
+use lib.Dec.{ltb, eqb}
+use lib.IntN.{ℤ, pos, negsuc}
+use lib.Signed.{ltZ}
+use lib.ListN.{length, getD}
+use Rattle.file.specs.Lists.{anyOf, allOf, keep, member, add}
+use Rattle.file.specs.Records.{front, qubitForm, mask}
+use Rattle.file.specs.declared.Refusal.the-variants.{ShortBuffer}
+use Rattle.graph.specs.declared.CircuitDag.{CircuitDag}
+use Rattle.insertion.specs.declared.Answer.the-variants.{Node, Refused}
+use Rattle.graph.specs.Dag.{absent, empty, size}
+use Rattle.insertion.specs.Insertion.{nearAll, qubits}
+use Rattle.insertion.specs.Limits.{insertAs, insertOf}
+use Rattle.insertion.specs.Calls.{final}
+use Rattle.walk.specs.declared.ParallelBlocks.{ParallelBlocks}
+use Rattle.walk.specs.declared.BlockCount.the-variants.{Blocks, Refused as NotWalked}
+use Rattle.walk.specs.Blocks.{start, nextBlock, nextState, wholeWalk}
+
+-- an accepted record, its node number, its place
+pub record Accepted : Type 0 where
+  pub node : ℕ
+  pub place : ℤ
+  pub bytes : List ℕ
+
+-- "Node numbers run from 0 in order of insertion. The k-th back insertion has place k - 1, the k-th front insertion place -k; a refused one is
+-- counted nowhere": the accepted records of a list, after b back and f front insertions
+unfoldable pub acceptedFrom : CircuitDag → ℕ → ℕ → List (List ℕ) → List Accepted
+acceptedFrom g b f [] = []
+acceptedFrom g b f (s ∷ l) = let x = insertOf g s in elim (x .answer) [
+  | Node v ↦ record { node = b + f; place = cond (front s) (negsuc f) (pos b); bytes = s }
+      ∷ acceptedFrom (x .graph) (cond (front s) b (b + 1)) (cond (front s) (f + 1) f) l
+  | Refused r ↦ acceptedFrom (x .graph) b f l
+]
+
+-- .. on the empty graph
+abbrev pub accepted : List (List ℕ) → List Accepted
+accepted l = acceptedFrom empty 0 0 l
+
+-- "What an operation takes is read from its record, never from the graph: only form All takes all qubits, and only a Set with mask zero is an empty set."
+abbrev pub takesAll : List ℕ → Bool
+takesAll s = eqb (qubitForm s) 1
+
+-- a qubit operation: form All or Set
+abbrev pub takesQubits : List ℕ → Bool
+takesQubits s = takesAll s || eqb (qubitForm s) 2
+
+-- "only a Set with mask zero is an empty set"
+abbrev pub emptySet : List ℕ → Bool
+emptySet s = eqb (qubitForm s) 2 && eqb (mask s) 0
+
+-- the accepted qubit operations
+abbrev pub operations : List (List ℕ) → List Accepted
+operations l = keep (λ (o : Accepted). takesQubits (o .bytes)) (accepted l)
+
+-- "no accepted operation has an empty qubit set and, where qubit operations are accepted at both ends, at most one of them takes all qubits"
+pub record Condition (l : List (List ℕ)) : Type 0 where
+  -- the records are bytes
+  pub bytes : allOf (allOf (λ b. ltb b 256)) l ≡ true
+  -- no accepted operation has an empty qubit set
+  pub nonempty : anyOf (λ (o : Accepted). emptySet (o .bytes)) (operations l) ≡ false
+  -- with a qubit operation accepted at the front and one at the back, at most one takes all
+  pub one-all : anyOf (λ (o : Accepted). front (o .bytes)) (operations l) ≡ true
+      → anyOf (λ (o : Accepted). not (front (o .bytes))) (operations l) ≡ true
+      → length (keep (λ (o : Accepted). takesAll (o .bytes)) (operations l)) ≤ 1
+
+-- "Two qubit operations clash if they share a qubit or one takes all."
+abbrev pub clash : List ℕ → List ℕ → Bool
+clash s t = takesAll s || takesAll t || anyOf (λ q. member q (qubits (mask t))) (qubits (mask s))
+
+-- P holds of each one in the list
+abbrev pub Each : (Accepted → Type 0) → List Accepted → Type 0
+Each P [] = Unit {0}
+Each P (o ∷ l) = P o × Each P l
+
+-- "of two clashing ones the earlier in the circuit into the earlier block", by a numbering of the nodes; "'Earlier in the circuit' means a smaller place"
+abbrev pub Orders : (ℕ → ℕ) → List Accepted → Type 0
+Orders block ops = Each (λ a. Each (λ b. clash (a .bytes) (b .bytes) ≡ true → ltZ (a .place) (b .place) ≡ true → block (a .node) < block (b .node)) ops) ops
+
+-- how many different numbers a list has
+unfoldable pub different : List ℕ → List ℕ → ℕ
+different [] seen = length seen
+different (x ∷ l) seen = different l (add x seen)
+
+-- the state after t steps from two empty sets, and the block of step t, counted from 0
+unfoldable pub stateAfter : CircuitDag → ℕ → ParallelBlocks
+stateAfter g zero = start
+stateAfter g (suc t) = nextState g (stateAfter g t)
+
+-- the block of step t, counted from 0
+abbrev pub blockOfStep : CircuitDag → ℕ → List ℕ
+blockOfStep g t = nextBlock g (stateAfter g t)
+
+-- what the whole walk wrote for node v
+abbrev pub entry : List (List ℕ) → List ℕ → ℕ → ℕ
+entry l buffer v = getD (wholeWalk (final l) buffer .buffer) v absent
+
+-- "The count returned is how many different numbers below 65535 were written."
+abbrev pub filled : List (List ℕ) → List ℕ → ℕ
+filled l buffer = different (keep (λ k. ltb k 65535) (map (entry l buffer) (map (λ (o : Accepted). o .node) (accepted l)))) []
+
+-- after the list l, with a buffer that has room for an entry a node
+pub record Guarantee (l : List (List ℕ)) (buffer : List ℕ) : Type 0 where
+  -- "Each call is accepted or refused exactly as document 01 says": by causes 4 to 7, on the graph that the calls before it left; never 11
+  pub calls : (before rest : List (List ℕ)) (s : List ℕ) → l ≡ before ++ (s ∷ rest) → insertOf (final before) s ≡ insertAs nearAll 0 (final before) s
+  -- the nodes are the accepted records
+  pub nodes : size (final l) ≡ length (accepted l)
+  -- "The walk counts exactly the blocks it filled"; it is not refused
+  pub count : wholeWalk (final l) buffer .answer ≡ Blocks (filled l buffer)
+  -- "each accepted qubit operation is in the block of exactly one step, its entry is that step's number, counted from 0"
+  pub once : Each (λ o. (t : ℕ) → member (o .node) (blockOfStep (final l) t) ≡ eqb t (entry l buffer (o .node))) (operations l)
+  -- "and other nodes get 65535"
+  pub others : Each (λ o. takesQubits (o .bytes) ≡ false → entry l buffer (o .node) ≡ 65535) (accepted l)
+  -- "of two clashing ones the earlier in the circuit into the earlier block"
+  pub order : Orders (entry l buffer) (operations l)
+  -- "Every other numbering of blocks from 0 that does the same puts no operation lower"
+  pub lowest : (rival : ℕ → ℕ) → Orders rival (operations l) → Each (λ o. entry l buffer (o .node) ≤ rival (o .node)) (operations l)
+  -- "and uses at least as many blocks as the walk counted": "as many blocks as it has different numbers"
+  pub fewest : (rival : ℕ → ℕ) → Orders rival (operations l)
+      → filled l buffer ≤ different (map rival (map (λ (o : Accepted). o .node) (operations l))) []
+
+-- "On the final graph the whole walk is refused only for a short buffer. Otherwise .."
+pub record Demand3 : Type 0 where
+  pub short : (l : List (List ℕ)) (buffer : List ℕ) → Condition l → length buffer < size (final l) → wholeWalk (final l) buffer .answer ≡ NotWalked ShortBuffer
+  pub whole : (l : List (List ℕ)) (buffer : List ℕ) → Condition l → size (final l) ≤ length buffer → Guarantee l buffer
