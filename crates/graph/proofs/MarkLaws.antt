@@ -16,6 +16,10 @@ use Rattle.graph.specs.Marks.{noNode, everyNode, unmarked, Listed, EndsB
 use Rattle.graph.proofs.BoolLaws.{bool-cases, clash-bool, and-l, and-r, and-intro, or-cases, or-inl, or-inr, not-flip, flip-not, eqb-same, split-lt}
 use Rattle.graph.proofs.ListLaws.{any-here, any-later, any-append}
 
+or-none : (b : Bool) → b ≡ (b || false)
+or-none true = refl
+or-none false = refl
+
 -- ---- one mark more
 
 replicate-false : (n u : ℕ) → getD (replicate n false) u false ≡ false
@@ -34,10 +38,6 @@ mark-set r a u h = elim (ℕ-discrete u a) [
   | yes e ↦ rw (e, eqb-same a) (getD-set-same r a true false h ∙ sym (or-inr (getD r a false) true refl))
   | no m ↦ rw (ne-eqb u a m) (getD-set-other r a u true false m ∙ or-none (getD r u false))
 ]
-  where
-    or-none : (b : Bool) → b ≡ (b || false)
-    or-none true = refl
-    or-none false = refl
 
 pub none-marked : (u : ℕ) → getD noNode u false ≡ false
 unfolding noNode
@@ -65,10 +65,6 @@ mark-or r a u x h = elim (ℕ-discrete u a) [
   | yes e ↦ rw (e, eqb-same a) (getD-set-same r a (getD r a false || x) false h)
   | no m ↦ rw (ne-eqb u a m) (getD-set-other r a u (getD r a false || x) false m ∙ or-none (getD r u false))
 ]
-  where
-    or-none : (b : Bool) → b ≡ (b || false)
-    or-none true = refl
-    or-none false = refl
 
 -- ---- the nodes of a list
 
@@ -84,10 +80,6 @@ member-cons u x l = ⊎-elim
     (λ (t : eqb u x ≡ true). any-here (eqb u) x l t ∙ sym (or-inr (member u l) (eqb u x) t))
     (λ (t : eqb u x ≡ false). any-later (eqb u) x l t ∙ rw t (or-none (member u l)))
     (bool-cases (eqb u x))
-  where
-    or-none : (b : Bool) → b ≡ (b || false)
-    or-none true = refl
-    or-none false = refl
 
 member-take : (l : List ℕ) (i u : ℕ) → i < length l → member u (take (i + 1) l) ≡ (member u (take i l) || eqb u (getD l i 0))
 member-take l i u h = rw (add-one i, take-suc l i 0 h, any-append (eqb u) (take i l) (getD l i 0 ∷ []), one-member u (getD l i 0)) refl
@@ -117,12 +109,8 @@ module _ (list : List ℕ) where
       long = I .long;
       each = λ u l.
           let n : eqb u (getD list i 0) ≡ false = ne-eqb u (getD list i 0) (omega (arith, e)) in
-          I .each u l ∙ sym (member-take list i u k ∙ rw n (or-none (member u (take i list))));
+          I .each u l ∙ sym (member-take list i u k ∙ rw n (sym (or-none (member u (take i list)))));
     })
-      where
-        or-none : (b : Bool) → (b || false) ≡ b
-        or-none true = refl
-        or-none false = refl
 
   pub lists-all : (r : List Bool) (i : ℕ) → Listing list r i → length list ≤ i → Listed list r
   lists-all r i I k =

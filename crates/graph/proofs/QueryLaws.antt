@@ -11,12 +11,12 @@ use Rattle.file.specs.declared.Refusal.the-variants.{Absent, NotInLayer, Unsoun
 use Rattle.graph.specs.declared.CircuitDag.{CircuitDag}
 use Rattle.graph.specs.Dag.{size}
 use Rattle.graph.specs.Soundness.{sound}
-use Rattle.graph.specs.Reach.{blocking, predecessorsOf, successorsOf}
+use Rattle.graph.specs.Reach.{blocking, BlockingList, predecessorsOf, successorsOf}
 use Rattle.graph.specs.Queries.{Lent, refuses, answers, onNode, executionBlocked, blockingPredecessors, successors, remove, freed, layerAfter, newFrontLayer}
 use Rattle.graph.specs.Marks.{noNode, everyNode, kept, without, layerBy, Listed, Neighbours, Closed, Waiting, FirstAt}
 use Rattle.graph.proofs.SoundnessLaws.{Sound}
 use Rattle.graph.proofs.BufferLaws.{remove-first, first-member, first-absent, length-some}
-use Rattle.graph.proofs.ReachLaws.{blocking-kept, predecessors-kept, successors-kept, freed-kept}
+use Rattle.graph.proofs.ReachLaws.{blocking-only, blocking-kept, predecessors-kept, successors-kept, freed-kept}
 
 -- ---- "queries 11, 8", then the answer
 
@@ -136,3 +136,10 @@ module _ (g : CircuitDag) (S : Sound g) (h : sound g ≡ true) (u v : ℕ) (e : 
         empty-is : (l : List ℕ) → length l ≡ 0 → l ≡ []
         empty-is [] h = refl
         empty-is (x ∷ l) h = absurd (omega arith)
+
+-- ---- execution_blocked by the relation: on a sound graph it answers the list of all nodes other than v from which v is
+-- reached, minus those in the executed list, ascending
+pub blocked-by-relation : (g : CircuitDag) → Sound g → sound g ≡ true → (executed : List ℕ) (v : ℕ) → v < size g → (l : List ℕ) → BlockingList g executed v l
+    → (b : List ℕ) → executionBlocked g executed v b ≡ answers l b
+unfolding executionBlocked
+blocked-by-relation g S h executed v low l K b = sym (node-answers g v b (answers (blocking g executed v) b) h low) ∙ ap (λ (z : List ℕ). answers z b) (sym (blocking-only g S executed v l K))

@@ -11,7 +11,7 @@ use lib.Dec.{eqb, ltb}
 use lib.IntN.{ℤ, pos, negsuc}
 use lib.Signed.{ltZ}
 use lib.ListN.{getD, set}
-use borrow.Author.Tests.{ltb-true, lt-ltb, eqb-true, eq-eqb, ne-eqb}
+use borrow.Author.Tests.{not-false, ltb-true, lt-ltb, eqb-true, eq-eqb, ne-eqb}
 use Rattle.file.specs.Lists.{anyOf, allOf, keep, countFrom, upTo, member, isEmpty}
 use Rattle.graph.specs.declared.CircuitDag.{CircuitDag}
 use Rattle.graph.specs.Dag.{Edge, edge, edgeAt, size, edgesOf, hasEdge, sameEdge, placeOf}
@@ -395,29 +395,21 @@ module _ (g : CircuitDag) (S : Sound g) where
     apart : (u : ℕ) → u < size g → getD (set everyNode v false) u false ≡ not (eqb u v)
     apart u l = other-marked v u (omega (arith, S .node-count)) (omega (arith, S .node-count))
 
-    pub predecessor-marks : (mark : List Bool) → Neighbours (set everyNode v false) (g .edges .from) (g .edges .to) m mark → (u : ℕ) → getD mark u false ≡ hasEdge g u v
-    predecessor-marks mark N u = bool-ext (getD mark u false) (hasEdge g u v)
-        (λ h. let r = N .only u h in
-        let e : T g (r .0) ≡ v = eqb-true (T g (r .0)) v (flipped (eqb (T g (r .0)) v) (sym (apart (T g (r .0)) (S .to-below (r .0) (r .1))) ∙ r .3)) in
-        rw (r .2, e) at (edge-at g (r .0) (r .1)))
-        (λ h. let i = edge-index g u v h in
-        rw (i .2) at (N .hit (i .0) (i .1) (apart (T g (i .0)) (S .to-below (i .0) (i .1)) ∙ ap not (eq-eqb (T g (i .0)) v (i .3)))))
-      where
-        flipped : (b : Bool) → not b ≡ false → b ≡ true
-        flipped true h = refl
-        flipped false h = sym h
+    -- x tells that an edge has u near and v far
+    neighbour-marks : (near far : List ℕ) → ((i : ℕ) → i < m → getD far i 0 < size g) → (mark : List Bool) → Neighbours (set everyNode v false) near far m mark → (u : ℕ) (x : Bool)
+        → (x ≡ true → (i : ℕ) × (i < m) × (getD near i 0 ≡ u) × (getD far i 0 ≡ v)) → ((i : ℕ) → i < m → getD near i 0 ≡ u → getD far i 0 ≡ v → x ≡ true)
+        → getD mark u false ≡ x
+    neighbour-marks near far below mark N u x told tells = bool-ext (getD mark u false) x
+        (λ h. let r = N .only u h in tells (r .0) (r .1) (r .2) (eqb-true (getD far (r .0) 0) v (not-false _ (sym (apart (getD far (r .0) 0) (below (r .0) (r .1))) ∙ r .3))))
+        (λ h. let i = told h in rw (i .2) at (N .hit (i .0) (i .1) (apart (getD far (i .0) 0) (below (i .0) (i .1)) ∙ ap not (eq-eqb (getD far (i .0) 0) v (i .3)))))
 
-    pub successor-marks : (mark : List Bool) → Neighbours (set everyNode v false) (g .edges .to) (g .edges .from) m mark → (w : ℕ) → getD mark w false ≡ hasEdge g v w
-    successor-marks mark N w = bool-ext (getD mark w false) (hasEdge g v w)
-        (λ h. let r = N .only w h in
-        let e : F g (r .0) ≡ v = eqb-true (F g (r .0)) v (flipped (eqb (F g (r .0)) v) (sym (apart (F g (r .0)) (S .from-below (r .0) (r .1))) ∙ r .3)) in
-        rw (r .2, e) at (edge-at g (r .0) (r .1)))
-        (λ h. let i = edge-index g v w h in
-        rw (i .3) at (N .hit (i .0) (i .1) (apart (F g (i .0)) (S .from-below (i .0) (i .1)) ∙ ap not (eq-eqb (F g (i .0)) v (i .2)))))
-      where
-        flipped : (b : Bool) → not b ≡ false → b ≡ true
-        flipped true h = refl
-        flipped false h = sym h
+    predecessor-marks : (mark : List Bool) → Neighbours (set everyNode v false) (g .edges .from) (g .edges .to) m mark → (u : ℕ) → getD mark u false ≡ hasEdge g u v
+    predecessor-marks mark N u = neighbour-marks (g .edges .from) (g .edges .to) (S .to-below) mark N u (hasEdge g u v)
+        (edge-index g u v) (λ i l p q. rw (p, q) at (edge-at g i l))
+
+    successor-marks : (mark : List Bool) → Neighbours (set everyNode v false) (g .edges .to) (g .edges .from) m mark → (w : ℕ) → getD mark w false ≡ hasEdge g v w
+    successor-marks mark N w = neighbour-marks (g .edges .to) (g .edges .from) (S .from-below) mark N w (hasEdge g v w)
+        (λ h. let i = edge-index g v w h in (i .0, i .1, i .3, i .2)) (λ i l p q. rw (p, q) at (edge-at g i l))
 
   -- the nodes that wait: marks along the edges from the ends of unexecuted nodes' edges
   module _ (executed : List ℕ) (skip : List Bool) (L : Listed executed skip) where

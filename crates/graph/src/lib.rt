@@ -1,4 +1,4 @@
-// The circuit dependency graph with two open ends: its types, and which graphs are sound. The rules are in specs/.
+// The circuit dependency graph with two open ends: its types, which graphs are sound, and the queries. The rules are in specs/.
 // Every array holds plain numbers, so that a part of the graph can be lent to a function in place.
 
 mod queries;

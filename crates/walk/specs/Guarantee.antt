@@ -58,11 +58,12 @@ operations l = keep (λ (o : Accepted). takesQubits (o .bytes)) (accepted l)
 
 -- "no accepted operation has an empty qubit set and, where qubit operations are accepted at both ends, at most one of them takes all qubits"
 pub record Condition (l : List (List ℕ)) : Type 0 where
-  -- the records are bytes
+  -- The records are bytes, numbers below 256. They may be any bytes: a record that breaks its rule is refused and does not count.
   pub bytes : allOf (allOf (λ b. ltb b 256)) l ≡ true
-  -- no accepted operation has an empty qubit set
+  -- No accepted operation has an empty qubit set: a pulse on nothing would hide the all-qubit pulse behind it (case 6 of the bench table).
   pub nonempty : anyOf (λ (o : Accepted). emptySet (o .bytes)) (operations l) ≡ false
-  -- with a qubit operation accepted at the front and one at the back, at most one takes all
+  -- Where qubit operations came in at both ends, at most one of them takes all qubits. With two, the graph loses an order (case 5).
+  -- With operations at one end only there is no such condition.
   pub one-all : anyOf (λ (o : Accepted). front (o .bytes)) (operations l) ≡ true
       → anyOf (λ (o : Accepted). not (front (o .bytes))) (operations l) ≡ true
       → length (keep (λ (o : Accepted). takesAll (o .bytes)) (operations l)) ≤ 1
@@ -104,25 +105,32 @@ filled l buffer = different (keep (λ k. ltb k 65535) (map (entry l buffer) (map
 
 -- after the list l, with a buffer that has room for an entry a node
 pub record Guarantee (l : List (List ℕ)) (buffer : List ℕ) : Type 0 where
-  -- "Each call is accepted or refused exactly as document 01 says": by causes 4 to 7, on the graph that the calls before it left; never 11
+  -- "Each call is accepted or refused exactly as document 01 says". At every place of the list the insertion goes by the rules from
+  -- cause 4 on, on the graph that the calls before it left; cause 11, an unsound graph, never comes.
   pub calls : (before rest : List (List ℕ)) (s : List ℕ) → l ≡ before ++ (s ∷ rest) → insertOf (final before) s ≡ insertAs nearAll 0 (final before) s
-  -- the nodes are the accepted records
+  -- The graph has a node for each accepted record and no other, so the entries of the walk are about just these.
   pub nodes : size (final l) ≡ length (accepted l)
-  -- "The walk counts exactly the blocks it filled"; it is not refused
+  -- "The walk counts exactly the blocks it filled". The whole walk is not refused, and the count that it returns is how many different
+  -- block numbers it wrote.
   pub count : wholeWalk (final l) buffer .answer ≡ Blocks (filled l buffer)
-  -- "each accepted qubit operation is in the block of exactly one step, its entry is that step's number, counted from 0"
+  -- "each accepted qubit operation is in the block of exactly one step, its entry is that step's number, counted from 0". Of all steps t,
+  -- however far one goes on, the operation is in the block of step t exactly if t is its entry: no pulse is lost, none fires twice.
   pub once : Each (λ o. (t : ℕ) → member (o .node) (blockOfStep (final l) t) ≡ eqb t (entry l buffer (o .node))) (operations l)
-  -- "and other nodes get 65535"
+  -- "and other nodes get 65535". What takes no qubit (definitions, register records) fires in no block.
   pub others : Each (λ o. takesQubits (o .bytes) ≡ false → entry l buffer (o .node) ≡ 65535) (accepted l)
-  -- "of two clashing ones the earlier in the circuit into the earlier block"
+  -- "of two clashing ones the earlier in the circuit into the earlier block". Two pulses that share a qubit, or of which one takes all,
+  -- are never swapped and never fire together.
   pub order : Orders (entry l buffer) (operations l)
-  -- "Every other numbering of blocks from 0 that does the same puts no operation lower"
+  -- "Every other numbering of blocks from 0 that does the same puts no operation lower". A rival is any function from nodes to numbers that
+  -- keeps all clashing operations in order; under it no operation comes earlier than in the walk.
   pub lowest : (rival : ℕ → ℕ) → Orders rival (operations l) → Each (λ o. entry l buffer (o .node) ≤ rival (o .node)) (operations l)
-  -- "and uses at least as many blocks as the walk counted": "as many blocks as it has different numbers"
+  -- "and uses at least as many blocks as the walk counted". A rival uses "as many blocks as it has different numbers": no schedule is
+  -- shorter.
   pub fewest : (rival : ℕ → ℕ) → Orders rival (operations l)
       → filled l buffer ≤ different (map rival (map (λ (o : Accepted). o .node) (operations l))) []
 
--- "On the final graph the whole walk is refused only for a short buffer. Otherwise .."
+-- Demand 3, for every list of insertions within the condition. "On the final graph the whole walk is refused only for a short buffer.
+-- Otherwise ..": the guarantee above holds.
 pub record Demand3 : Type 0 where
   pub short : (l : List (List ℕ)) (buffer : List ℕ) → Condition l → length buffer < size (final l) → wholeWalk (final l) buffer .answer ≡ NotWalked ShortBuffer
   pub whole : (l : List (List ℕ)) (buffer : List ℕ) → Condition l → size (final l) ≤ length buffer → Guarantee l buffer

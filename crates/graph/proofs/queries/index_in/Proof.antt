@@ -55,5 +55,3 @@ index-in-spec =
     loop-less
     loop-again
     returns-2)
-
--- t
