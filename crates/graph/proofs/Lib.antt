@@ -10,3 +10,6 @@ pub mod MarkLaws
 pub mod BufferLaws
 pub mod ReachLaws
 pub mod QueryLaws
+pub mod ConversionLaws
+pub mod CircuitLaws
+pub mod CircuitTheorems

@@ -1,9 +1,11 @@
-// The circuit dependency graph with two open ends: its types, which graphs are sound, and the queries. The rules are in specs/.
+// The circuit dependency graph with two open ends: its types, which graphs are sound, the queries and the conversion to a circuit. The rules are in specs/.
 // Every array holds plain numbers, so that a part of the graph can be lent to a function in place.
 
+mod conversion;
 mod queries;
 pub mod soundness;
 
+pub use conversion::to_circuit;
 use file::Refusal;
 pub use queries::blocking_predecessors;
 pub use queries::execution_blocked;

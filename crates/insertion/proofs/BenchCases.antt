@@ -12,6 +12,7 @@ use Rattle.graph.specs.declared.CircuitDag.{CircuitDag}
 use Rattle.graph.specs.Dag.{Node, absent, edge, entry, nodesOf, edgesOf, entriesOf, atQubit, noEnd, noRegisters, empty}
 use Rattle.graph.specs.declared.Query.the-variants.{Entries}
 use Rattle.graph.specs.Soundness.{ascends, sound}
+use Rattle.graph.specs.Conversion.{placeIn, sortByPlace, circuitOf}
 use Rattle.graph.specs.Reach.{reachedBy, blocking}
 use Rattle.graph.specs.Queries.{remove, layerAfter, newFrontLayer}
 use Rattle.insertion.specs.Registers.{put, define, setKeys, registersAfter}
@@ -21,7 +22,7 @@ use Rattle.insertion.specs.Calls.{graphAfter, final}
 
 -- a declaration that says `unfolding rules` computes with every rule of insertion
 unfoldable pub rules : ℕ
-unfolding numberAt anyOf allOf keep distinct countFrom markedFrom definitionRule qubitRule entryBefore ascendFrom setRule tailRule recordRule qubitsBy classicalOf noEnd noRegisters empty ascends sound put define setKeys registersAfter qubitsFrom linkQubits linkSet mapped linkAll grown insertAs insertOf graphAfter reachedBy blocking remove layerAfter newFrontLayer
+unfolding numberAt anyOf allOf keep distinct countFrom markedFrom definitionRule qubitRule entryBefore ascendFrom setRule tailRule recordRule qubitsBy classicalOf noEnd noRegisters empty ascends sound put define setKeys registersAfter qubitsFrom linkQubits linkSet mapped linkAll grown insertAs insertOf graphAfter reachedBy blocking remove layerAfter newFrontLayer placeIn sortByPlace circuitOf
 rules = 0
 
 -- "numbers in braces are qubits": a record of kind 0, label 0, on qubits below 8
@@ -99,10 +100,10 @@ case-6 = (refl, refl)
 abbrev case7 : CircuitDag
 case7 = final (F (0 ∷ []) ∷ F (0 ∷ []) ∷ [])
 
--- "7. F{0} F{0}: places -1, -2; edge 1-0"
-case-7 : (map (λ (n : Node). n .place) (nodesOf case7) ≡ negsuc 0 ∷ negsuc 1 ∷ []) × (edgesOf case7 ≡ edge 1 0 ∷ [])
+-- "7. F{0} F{0}: places -1, -2; edge 1-0; circuit 1, 0."
+case-7 : (map (λ (n : Node). n .place) (nodesOf case7) ≡ negsuc 0 ∷ negsuc 1 ∷ []) × (edgesOf case7 ≡ edge 1 0 ∷ []) × (circuitOf case7 ≡ 1 ∷ 0 ∷ [])
 unfolding rules
-case-7 = (refl, refl)
+case-7 = (refl, refl, refl)
 
 abbrev case10 : List (List ℕ) → CircuitDag
 case10 l = final (Bit 1 2 ∷ Bit 2 1 ∷ NameAll 2 ∷ l)

@@ -19,3 +19,5 @@ pub mod SafeEdges
 pub mod SafeNodes
 pub mod BuiltLaws
 pub mod BuiltLoads
+pub mod ConversionLaws
+pub mod ReturnLaws

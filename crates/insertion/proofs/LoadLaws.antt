@@ -107,13 +107,13 @@ pub bad-file : (file : List ℕ) (r : Refusal) → checkFile file ≡ BadFile r 
 unfolding load
 bad-file file r e = rw e refl
 
-take-upTo : (n m k : ℕ) → n ≤ m → take n (countFrom m k) ≡ countFrom n k
+pub take-upTo : (n m k : ℕ) → n ≤ m → take n (countFrom m k) ≡ countFrom n k
 unfolding countFrom
 take-upTo zero m k h = refl
 take-upTo (suc n) zero k h = absurd (omega arith)
 take-upTo (suc n) (suc m) k h = ap (λ (l : List ℕ). k ∷ l) (take-upTo n m (k + 1) (omega arith))
 
-count-at : (m k i : ℕ) → i < m → getD (countFrom m k) i 0 ≡ k + i
+pub count-at : (m k i : ℕ) → i < m → getD (countFrom m k) i 0 ≡ k + i
 unfolding countFrom
 count-at zero k i h = absurd (omega arith)
 count-at (suc m) k zero h = omega arith

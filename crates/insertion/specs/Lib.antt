@@ -7,3 +7,6 @@ pub mod Ends
 pub mod RegisterMaps
 pub mod Arrays
 pub mod Built
+pub mod Conversion
+pub mod Circuits
+pub mod CircuitRecords

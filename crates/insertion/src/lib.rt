@@ -1,4 +1,5 @@
 // Insertion at both ends and the load of a circuit file. The rules are in specs/.
+mod conversion;
 mod inserting;
 mod links;
 mod loading;
@@ -6,6 +7,7 @@ mod nodes;
 mod records;
 mod registers;
 
+pub use conversion::from_circuit;
 use file::Refusal;
 use graph::CircuitDag;
 use graph::NodeIndex;

@@ -22,7 +22,7 @@ use graph::CircuitDag;
 use graph::NodeIndex;
 
 // A refused load gives the empty graph.
-fn not_loaded(r: Refusal) -> Loaded
+pub(crate) fn not_loaded(r: Refusal) -> Loaded
     ensures { λ x. ⌜ x ≡ notLoaded r ⌝ }
 {
     Loaded {
@@ -60,7 +60,7 @@ fn empty_state() -> GraphState
 }
 
 // 0, 1, 2, ..: the records in file order.
-fn file_order() -> [u16; 512]
+pub(crate) fn file_order() -> [u16; 512]
     ensures { λ r. ⌜ r ≡ upTo 512 ⌝ }
 {
     let mut order = [0u16; 512];
@@ -73,7 +73,7 @@ fn file_order() -> [u16; 512]
 }
 
 // A number of the order, to count with.
-fn widened(x: u16) -> usize
+pub(crate) fn widened(x: u16) -> usize
     ensures { λ r. ⌜ r ≡ x ⌝ }
 {
     x as usize
