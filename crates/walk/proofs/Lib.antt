@@ -14,3 +14,7 @@ pub mod DemandLaws
 pub mod BlockLaws
 pub mod NumberLaws
 pub mod BlockingLaws
+pub mod NumberingLaws
+pub mod WholeLaws
+pub mod StepLaws
+pub mod NextLaws

@@ -1,5 +1,8 @@
 // Document 01's blocks: the walk's types. The rules are in specs/.
+pub mod whole;
+
 use file::Refusal;
+pub use whole::whole_walk;
 
 // "the state is two sets, current and executed"
 pub struct ParallelBlocks {
@@ -18,4 +21,10 @@ pub enum NextBlock {
 pub enum BlockCount {
     Blocks(usize),
     Refused(Refusal),
+}
+
+// A step's answer, and the walk after it.
+pub struct WalkStep {
+    pub answer: NextBlock,
+    pub walk: ParallelBlocks,
 }

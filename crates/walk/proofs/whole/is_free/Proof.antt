@@ -1,0 +1,20 @@
+-- `walk::whole::is_free` meets its contract. Assumes nothing.
+use mathlib.Core.Path.{_≡_, refl, sym, _∙_}
+use mathlib.Core.Bool.{Bool, true, false}
+use Prim.Native.Nat.{ℕ, _+_, _-_, _≤_, _<_}
+use native.Mathlib.Omega.{arith}
+use lib.Dec.{eqb}
+use borrow.Author.Tests.{eq-eqb, ne-eqb}
+use Rattle.walk.proofs.StepLaws.{and-not, and-true}
+use borrow.Author.Needs.{needs}
+use Rattle.walk.proofs.whole.is_free.Statement.{statement}
+use Rattle.walk.proofs.whole.is_free.Tie as tie
+
+returns : tie.Need-returns
+returns c = sym (and-not (c .before .args .a) _ (eq-eqb _ _ (c .if1 .taken)))
+
+returns-2 : tie.Need-returns-2
+returns-2 c = sym (and-true (c .before .args .a) _ (ne-eqb _ _ (c .if1 .left)))
+
+pub is-free-spec : {M : Type 1} → statement M
+is-free-spec = tie.close (tie.spec returns returns-2)

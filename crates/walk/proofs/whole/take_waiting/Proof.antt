@@ -1,0 +1,93 @@
+-- `walk::whole::take_waiting` meets its contract. Assumes nothing.
+use mathlib.Core.Path.{_≡_, refl, sym, _∙_}
+use mathlib.Core.Bool.{Bool, true, false}
+use Prim.Native.Nat.{ℕ, _+_, _-_, _≤_, _<_}
+use native.Mathlib.Omega.{arith}
+use Rattle.walk.proofs.StepLaws.{Taking, taking-begin, taking-more, taking-done}
+use borrow.Author.Needs.{needs}
+use Rattle.walk.proofs.whole.take_waiting.Statement.{statement}
+use Rattle.walk.proofs.whole.take_waiting.Tie as tie
+
+abbrev Inv-loop : tie.InvT-loop
+Inv-loop from to m num found₀ i₀ found i = Taking from to m num found₀ found i
+
+abbrev μ-loop : tie.MeasureT-loop
+μ-loop from to m num found₀ i₀ found i = m - i
+
+-- the edge's ends are places of the array
+low-from : (c : tie.After-wide Inv-loop μ-loop) → c .wide .result < 512
+low-from c = rw (c .wide .ensures) (c .before .before .before .loop .inv .joins .from-low _ (c .before .before .loop-test .taken))
+
+low-to : (c : tie.After-wide2 Inv-loop μ-loop) → c .wide2 .result < 512
+low-to c = rw (c .wide2 .ensures) (c .before .before .before .before .before .loop .inv .joins .to-low _ (c .before .before .before .before .loop-test .taken))
+
+loop-holds : tie.Need-loop-holds Inv-loop μ-loop
+loop-holds c = taking-begin _ _ _ _ _ (c .pre .0) (c .pre .1)
+
+mul-wide : tie.Need-mul-wide Inv-loop μ-loop
+mul-wide c = search needs
+
+element-copy-out-wide : tie.Need-element-copy-out-wide Inv-loop μ-loop
+element-copy-out-wide c = search needs
+
+wide-requires : tie.Need-wide-requires Inv-loop μ-loop
+wide-requires c κs = search needs
+
+mul-wide-2 : tie.Need-mul-wide-2 Inv-loop μ-loop
+mul-wide-2 c = search needs
+
+element-copy-out-wide-2 : tie.Need-element-copy-out-wide-2 Inv-loop μ-loop
+element-copy-out-wide-2 c = search needs
+
+wide-requires-2 : tie.Need-wide-requires-2 Inv-loop μ-loop
+wide-requires-2 c κs = search needs
+
+element-copy-out-is-free : tie.Need-element-copy-out-is-free Inv-loop μ-loop
+element-copy-out-is-free c = low-to c
+
+mul-is-free : tie.Need-mul-is-free Inv-loop μ-loop
+mul-is-free c = omega (arith, low-from (c .before .before .before))
+
+element-copy-out-is-free-2 : tie.Need-element-copy-out-is-free-2 Inv-loop μ-loop
+element-copy-out-is-free-2 c = low-from (c .before .before .before)
+
+is-free-requires : tie.Need-is-free-requires Inv-loop μ-loop
+is-free-requires c κs = search needs
+
+element-write-found : tie.Need-element-write-found Inv-loop μ-loop
+element-write-found c = low-to (c .before .before .before)
+
+add-i : tie.Need-add-i Inv-loop μ-loop
+add-i c = search needs
+
+loop-less : tie.Need-loop-less Inv-loop μ-loop
+loop-less c = search needs
+
+loop-again : tie.Need-loop-again Inv-loop μ-loop
+loop-again c = taking-more _ _ _ _ _ (c .before .before .before .before .before .before .before .before .loop .inv) (c .before .before .before .before .before .before .before .loop-test .taken) _ _ _ (c .before .before .before .before .before .wide .ensures) (c .before .before .before .wide2 .ensures) (c .is-free .ensures)
+
+returns : tie.Need-returns Inv-loop μ-loop
+returns c = taking-done _ _ _ _ _ (c .before .loop .inv) (c .loop-test .left)
+
+pub take-waiting-spec : {M : Type 1} → statement M
+take-waiting-spec =
+    tie.close
+    (tie.spec
+    Inv-loop
+    μ-loop
+    loop-holds
+    mul-wide
+    element-copy-out-wide
+    wide-requires
+    mul-wide-2
+    element-copy-out-wide-2
+    wide-requires-2
+    element-copy-out-is-free
+    mul-is-free
+    element-copy-out-is-free-2
+    is-free-requires
+    element-write-found
+    add-i
+    loop-less
+    loop-again
+    returns)
