@@ -16,12 +16,14 @@ ghost use mathlib.Core.Path.{_≡_};
 ghost use Rattle.graph.specs.Dag.{noEnd, noRegisters, empty};
 
 // A node number (the source's NodeIndex); 65535 where there is none.
+#[repr(C)]
 pub struct NodeIndex(pub u16);
 
 // A qubit number, 0 to 63.
 pub struct Qubit(pub u8);
 
 // What each node keeps, at its number.
+#[repr(C)]
 pub struct Nodes {
     pub count: usize,
     pub kind: [u8; 512],
@@ -31,6 +33,7 @@ pub struct Nodes {
 }
 
 // Edge i runs from node from[i] to node to[i].
+#[repr(C)]
 pub struct Edges {
     pub count: usize,
     pub from: [u16; 2048],
@@ -38,6 +41,7 @@ pub struct Edges {
 }
 
 // One end of the circuit: the map from qubit to node (65535: absent), the all-qubit node, the block.
+#[repr(C)]
 pub struct End {
     pub node: [u16; 64],
     pub all: NodeIndex,
@@ -45,6 +49,7 @@ pub struct End {
 }
 
 // A register map: entry i has the key (name[i], index[i]) and the node node[i].
+#[repr(C)]
 pub struct Registers {
     pub count: usize,
     pub name: [u8; 256],
@@ -52,6 +57,7 @@ pub struct Registers {
     pub node: [u16; 256],
 }
 
+#[repr(C)]
 pub struct Commuting {
     pub count: usize,
     pub list: [u16; 512],
@@ -63,6 +69,7 @@ pub enum Query {
     Refused(Refusal),
 }
 
+#[repr(C)]
 pub struct CircuitDag {
     pub nodes: Nodes,
     pub edges: Edges,

@@ -5,6 +5,7 @@ use file::Refusal;
 pub use whole::whole_walk;
 
 // "the state is two sets, current and executed"
+#[repr(C)]
 pub struct ParallelBlocks {
     pub current: [bool; 512],
     pub executed: [bool; 512],
