@@ -42,7 +42,7 @@ module _ (g : CircuitDag) where
   rank-top (pos k) h = omega (arith, ltb-true k (g .backs) h)
   rank-top (negsuc k) h = omega (arith, ltb-true k (g .fronts) h)
 
-empty-list : (l : List ℕ) → isEmpty l ≡ true → l ≡ []
+pub empty-list : (l : List ℕ) → isEmpty l ≡ true → l ≡ []
 empty-list [] h = refl
 empty-list (x ∷ l) h = absurd (clash-bool h refl)
 

@@ -191,7 +191,7 @@ pub record Sized (w : ParallelBlocks) : Type 0 where
 abbrev pub sets : ParallelBlocks → Walk
 sets w = record { cur = λ v. getD (w .current) v false; exe = λ v. getD (w .executed) v false }
 
-unstarted-is : (w : ParallelBlocks) → Sized w → unstarted w ≡ (empty 512 (sets w .cur) && empty 512 (sets w .exe))
+pub unstarted-is : (w : ParallelBlocks) → Sized w → unstarted w ≡ (empty 512 (sets w .cur) && empty 512 (sets w .exe))
 unfolding empty
 unstarted-is w S = λ i. not (any-list (λ b. b) (w .current) false 512 (S .current) i) && not (any-list (λ b. b) (w .executed) false 512 (S .executed) i)
 
@@ -228,7 +228,7 @@ module _ (g : CircuitDag) (W : Within g) where
       below : any (size g) (λ u. sets w .cur u && hasEdge g u v) ≡ true → v < size g
       below h = let r = any-and (size g) (sets w .cur) (λ u. hasEdge g u v) h in W .to _ _ (r .3)
 
-  next-low : (w : ParallelBlocks) (v : ℕ) → member v (nextBlock g w) ≡ true → v < size g
+  pub next-low : (w : ParallelBlocks) (v : ℕ) → member v (nextBlock g w) ≡ true → v < size g
   unfolding followers
   next-low w v = ⊎-elim
       (λ (e : unstarted w ≡ true). rw e (λ (h : member v (members (g .first .block)) ≡ true). W .first v (sym (member-marked (g .first .block) v) ∙ h)))
@@ -236,7 +236,7 @@ module _ (g : CircuitDag) (W : Within g) where
       (sym (member-keep (λ v. anyOf (λ u. hasEdge g u v) (members (w .current)) && isEmpty (blocking g (members (joined (w .current) (w .executed))) v)) v (upTo (size g))) ∙ h))))
       (bool-cases (unstarted w))
 
-  next-marked : (w : ParallelBlocks) (v : ℕ) → getD (marks (nextBlock g w)) v false ≡ member v (nextBlock g w)
+  pub next-marked : (w : ParallelBlocks) (v : ℕ) → getD (marks (nextBlock g w)) v false ≡ member v (nextBlock g w)
   next-marked w = marks-at (nextBlock g w) (λ v h. omega (arith, next-low w v h, W .cap))
 
   next-sized : (w : ParallelBlocks) → Sized w → Sized (nextState g w)
@@ -271,7 +271,7 @@ module _ (g : CircuitDag) (W : Within g) where
         | no b ↦ List·getD-eq-default l false {n = v} (omega arith)
       ]
 
-  state-sized : (t : ℕ) → Sized (stateAfter g t)
+  pub state-sized : (t : ℕ) → Sized (stateAfter g t)
   unfolding stateAfter start
   state-sized zero = record { current = length-replicate {A = Bool} 512 false; executed = length-replicate {A = Bool} 512 false }
   state-sized (suc t) = next-sized (stateAfter g t) (state-sized t)

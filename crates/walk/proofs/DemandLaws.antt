@@ -73,11 +73,11 @@ module _ (g : CircuitDag) (s : sound g ≡ true) (buffer : List ℕ) where
   unfolding wholeWalk
   walk-short h = rw (s, lt-ltb (length buffer) (size g) h) refl
 
-  walk-done : size g ≤ length buffer → wholeWalk g buffer ≡ record { answer = Blocks (length (blocks g)); buffer = onto (blockNumbers g) buffer }
+  pub walk-done : size g ≤ length buffer → wholeWalk g buffer ≡ record { answer = Blocks (length (blocks g)); buffer = onto (blockNumbers g) buffer }
   unfolding wholeWalk
   walk-done h = rw (s, le-ltb (length buffer) (size g) h) refl
 
-  walk-entry : size g ≤ length buffer → (v : ℕ) → v < size g → getD (wholeWalk g buffer .buffer) v absent ≡ numberFrom 0 (blocks g) v
+  pub walk-entry : size g ≤ length buffer → (v : ℕ) → v < size g → getD (wholeWalk g buffer .buffer) v absent ≡ numberFrom 0 (blocks g) v
   walk-entry h v l = ap (λ (x : Walked). getD (x .buffer) v absent) (walk-done h)
       ∙ List·getD-append (blockNumbers g) (drop (length (blockNumbers g)) buffer) absent v (omega (arith, length-upTo (numberFrom 0 (blocks g)) (size g)))
       ∙ upTo-at (numberFrom 0 (blocks g)) (size g) v absent l

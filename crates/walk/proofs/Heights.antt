@@ -276,6 +276,10 @@ module _ (n : ℕ) (edge : ℕ → ℕ → Bool) (rank : ℕ → ℕ) (U : Upwar
   held (suc k) = let r = held k in
       (r .0, r .1, join-inr (cur (suc k)) (exe (suc k)) (r .0) (ap (λ w. w .exe (r .0)) (after-more k r) ∙ r .2))
 
+  -- once started, the two sets are never both empty again
+  pub stays-busy : (k : ℕ) → (empty 512 (cur k) && empty 512 (exe k)) ≡ false
+  stays-busy k = busy k (held k)
+
   pub cur-suc : (k : ℕ) → cur (suc k) ≡ follow n edge (cur k) (exe k)
   unfolding block
   cur-suc k = ap (λ w. w .cur) (after-more k (held k))

@@ -18,3 +18,4 @@ pub mod NumberingLaws
 pub mod WholeLaws
 pub mod StepLaws
 pub mod NextLaws
+pub mod IterationLaws
