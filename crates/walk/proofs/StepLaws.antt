@@ -298,17 +298,20 @@ module _ (m : List Bool) (out₀ : List ℕ) where
 
 -- ---- sets and lists
 
-marked-keep : (p : ℕ → Bool) (s : List Bool) (k n : ℕ) → n ≤ length s → ((i : ℕ) → i < n → getD s i false ≡ p (k + i))
+-- marks that p tells below n, and that are clear from n on
+pub marked-keep : (p : ℕ → Bool) (s : List Bool) (k n : ℕ) → ((i : ℕ) → i < n → getD s i false ≡ p (k + i))
     → ((i : ℕ) → n ≤ i → getD s i false ≡ false) → markedFrom k s ≡ keep p (countFrom n k)
 unfolding markedFrom keep countFrom
-marked-keep p [] k zero l h o = refl
-marked-keep p [] k (suc n) l h o = absurd (omega arith)
-marked-keep p (b ∷ s) k zero l h o = ap (λ (c : Bool). consIf c k (markedFrom (k + 1) s)) (o 0 (omega arith))
-    ∙ marked-keep p s (k + 1) 0 (omega arith) (λ i m. absurd (omega arith)) (λ i m. o (suc i) (omega arith))
-marked-keep p (b ∷ s) k (suc n) l h o =
+marked-keep p [] k zero h o = refl
+marked-keep p [] k (suc n) h o =
     let z : k + 0 ≡ k = omega arith in
-    let r = marked-keep p s (k + 1) n (omega arith)
-    (λ i m. let y : k + suc i ≡ (k + 1) + i = omega arith in h (suc i) (omega arith) ∙ ap p y) (λ i m. o (suc i) (omega arith)) in
+    let r = marked-keep p [] (k + 1) n (λ i m. let y : k + suc i ≡ (k + 1) + i = omega arith in h (suc i) (omega arith) ∙ ap p y) (λ i m. refl) in
+    r ∙ ap (λ (c : Bool). consIf c k (keep p (countFrom n (k + 1)))) (h 0 (omega arith) ∙ ap p z)
+marked-keep p (b ∷ s) k zero h o = ap (λ (c : Bool). consIf c k (markedFrom (k + 1) s)) (o 0 (omega arith))
+    ∙ marked-keep p s (k + 1) 0 (λ i m. absurd (omega arith)) (λ i m. o (suc i) (omega arith))
+marked-keep p (b ∷ s) k (suc n) h o =
+    let z : k + 0 ≡ k = omega arith in
+    let r = marked-keep p s (k + 1) n (λ i m. let y : k + suc i ≡ (k + 1) + i = omega arith in h (suc i) (omega arith) ∙ ap p y) (λ i m. o (suc i) (omega arith)) in
     ap (λ (c : Bool). consIf c k (markedFrom (k + 1) s)) (h 0 (omega arith) ∙ ap p z) ∙ ap (consIf (p k) k) r
 
 pub marks-members : (s : List Bool) → length s ≡ 512 → marks (members s) ≡ s
@@ -447,5 +450,5 @@ module _ (g : CircuitDag) (s : sound g ≡ true) (all : List Bool) where
       found-low v l = not-true (λ h. let r = R .only v (T .kept v h) in omega (arith, W g s .to _ v (edge-here (r .0) v (r .1) (r .2))))
 
       pub followers-found : members found ≡ freeAfter g current all
-      followers-found = marked-keep (λ v. before v && unheld v) found 0 n (omega (arith, T .long, W g s .cap))
+      followers-found = marked-keep (λ v. before v && unheld v) found 0 n
           (λ i l. bool-ext _ _ (found-free i) (free-found i) ∙ ap (λ (v : ℕ). before v && unheld v) (sym (zero-add i))) found-low
