@@ -1,4 +1,3 @@
-pub mod BenchCases
 pub mod QubitLaws
 pub mod LinkLaws
 pub mod LinkLoops

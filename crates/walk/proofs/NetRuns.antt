@@ -111,7 +111,7 @@ run-size farAll g (c ∷ cs) = omega (arith, run-size farAll (insert farAll g c)
 
 -- ---- from the invariant to the guarantee
 
-clash-on : (a b : Take) (q : ℕ) → q < 64 → on a q ≡ true → on b q ≡ true → clashes a b ≡ true
+pub clash-on : (a b : Take) (q : ℕ) → q < 64 → on a q ≡ true → on b q ≡ true → clashes a b ≡ true
 unfolding clashes
 clash-on a b q l x y = or-inr (isAll a) _ (or-inr (isAll b) _ (and-any 64 (on a) (on b) q l x y))
 

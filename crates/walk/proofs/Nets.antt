@@ -71,7 +71,7 @@ pub opt-cases : (o : Option ℕ) → (o ≡ none) ⊎ ((a : ℕ) × (o ≡ some 
 opt-cases none = inl refl
 opt-cases (some a) = inr (a, refl)
 
-is-some : (o : Option ℕ) (a : ℕ) → is o a ≡ true → o ≡ some a
+pub is-some : (o : Option ℕ) (a : ℕ) → is o a ≡ true → o ≡ some a
 is-some none a h = cc
 is-some (some b) a h = ap some (eqb-true b a h)
 
@@ -266,10 +266,10 @@ flip-base g B = record {
 
 -- ---- a new node
 
-put-same : (v : ℕ) (t : Take) (f : ℕ → Take) → put v t f v ≡ t
+pub put-same : (v : ℕ) (t : Take) (f : ℕ → Take) → put v t f v ≡ t
 put-same v t f = rw (eqb-same v)
 
-put-other : (v : ℕ) (t : Take) (f : ℕ → Take) (u : ℕ) → u ≢ v → put v t f u ≡ f u
+pub put-other : (v : ℕ) (t : Take) (f : ℕ → Take) (u : ℕ) → u ≢ v → put v t f u ≡ f u
 put-other v t f u h = rw (ne-eqb u v h)
 
 pub same-node : (u v : ℕ) → (u ≡ v) ⊎ (u ≢ v)

@@ -101,13 +101,13 @@ module _ (g : CircuitDag) (s : sound g ≡ true) where
   abbrev pub numberOf : ℕ → ℕ
   numberOf v = numberFrom 0 (blocks g) v
 
-  some-first : (t v : ℕ) → blk t v ≡ true → any n F ≡ true
+  pub some-first : (t v : ℕ) → blk t v ≡ true → any n F ≡ true
   some-first t v h = not-false (λ e. clash-bool h (no-block g s e t v))
 
-  number-block : (t v : ℕ) → blk t v ≡ true → numberOf v ≡ t
+  pub number-block : (t v : ℕ) → blk t v ≡ true → numberOf v ≡ t
   number-block t v h = number-is g s t v (block-at g (W g s) t v ∙ h)
 
-  block-low : (t v : ℕ) → blk t v ≡ true → t < n
+  pub block-low : (t v : ℕ) → blk t v ≡ true → t < n
   block-low t v h = last-step g s t v (block-at g (W g s) t v ∙ h)
 
   -- v is in the block of its number, or in none

@@ -1,0 +1,60 @@
+-- The bench table, proved by computing the rules; the statement is in specs/BenchTable.antt. Assumes nothing.
+use mathlib.Core.Path.{_≡_, refl}
+use mathlib.Core.List.{[], _∷_}
+use Prim.Native.Nat.{ℕ}
+use native.Mathlib.Omega.{arith}
+use Rattle.file.specs.Lists.{anyOf, allOf, keep, distinct, countFrom, markedFrom}
+use Rattle.file.specs.Pairs.{numberAt}
+use Rattle.file.specs.Records.{definitionRule, qubitRule, entryBefore, ascendFrom, setRule, tailRule, recordRule, qubitsBy, classicalOf}
+use Rattle.graph.specs.Dag.{atQubit, noEnd, noRegisters, empty}
+use Rattle.graph.specs.Soundness.{ascends, sound}
+use Rattle.graph.specs.Conversion.{placeIn, sortByPlace, circuitOf}
+use Rattle.graph.specs.Reach.{reachedBy, blocking}
+use Rattle.graph.specs.Queries.{remove, layerAfter, newFrontLayer}
+use Rattle.insertion.specs.Registers.{put, define, setKeys, registersAfter}
+use Rattle.insertion.specs.Insertion.{qubitsFrom, linkQubits, linkSet, mapped, linkAll, grown}
+use Rattle.insertion.specs.Limits.{insertAs, insertOf}
+use Rattle.insertion.specs.Calls.{graphAfter, final}
+use Rattle.walk.specs.Blocks.{marks, start, joined, followers, blocksFrom, blocks, numberFrom, wholeWalk}
+use Rattle.walk.specs.Guarantee.{acceptedFrom}
+use Rattle.planning.specs.Chain.{chainFrom, chainOf}
+use Rattle.planning.specs.BenchTable.{B, BAll, case2, case5, case6, BenchTable}
+
+-- a declaration that says `unfolding rules` computes with every rule
+unfoldable pub rules : ℕ
+unfolding numberAt anyOf allOf keep distinct countFrom markedFrom definitionRule qubitRule entryBefore ascendFrom setRule tailRule recordRule qubitsBy classicalOf noEnd noRegisters empty ascends sound put define setKeys registersAfter qubitsFrom linkQubits linkSet mapped linkAll grown insertAs insertOf graphAfter reachedBy blocking remove layerAfter newFrontLayer placeIn sortByPlace circuitOf marks start joined followers blocksFrom blocks numberFrom wholeWalk acceptedFrom chainFrom chainOf
+rules = 0
+
+-- "The ten cases above are one theorem about the rules."
+pub bench-table : BenchTable
+unfolding rules
+bench-table = record {
+  case-1 = refl;
+  case-2 = (refl, refl);
+  case-3 = (refl, refl);
+  case-4 = (refl, refl, refl);
+  case-5 = (refl, refl, λ c. omega (arith, c .one-all refl refl));
+  case-6 = (refl, refl, refl);
+  case-7 = (refl, refl, refl);
+  case-8 = refl;
+  case-9 = refl;
+  case-10 = (refl, refl, refl);
+}
+
+-- "first[q] becomes lastAll": B All, B All, B{3} gives first[3] = 1, where firstAll would give 0. No case of the table tells the two apart.
+far-of-new : atQubit (final (BAll ∷ BAll ∷ B (3 ∷ []) ∷ []) .first) 3 ≡ 1
+unfolding rules
+far-of-new = refl
+
+-- the chains of cases 2, 5 and 6: each goes on to the smallest predecessor, from the smallest node of the last block
+chain-of-2 : chainOf case2 ≡ 2 ∷ 0 ∷ []
+unfolding rules
+chain-of-2 = refl
+
+chain-of-5 : chainOf case5 ≡ 2 ∷ 1 ∷ 0 ∷ []
+unfolding rules
+chain-of-5 = refl
+
+chain-of-6 : chainOf case6 ≡ 0 ∷ []
+unfolding rules
+chain-of-6 = refl

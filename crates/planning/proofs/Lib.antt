@@ -1,0 +1,5 @@
+pub mod ChainLaws
+pub mod DescentLaws
+pub mod LinkedNets
+pub mod BuiltChains
+pub mod BenchCases

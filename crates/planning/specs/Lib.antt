@@ -1,0 +1,4 @@
+pub mod Chain
+pub mod Descents
+pub mod Chains
+pub mod BenchTable
