@@ -6,6 +6,8 @@ With the argument --rust it prints the small good file as the array of crates/fi
 import sys
 from collections import Counter
 
+from circuit import circuit_file
+
 
 def record(end=0, kind=0, form=0, mask=0, register=0, label=0, tail=b""):
     return bytes([end, kind, form]) + mask.to_bytes(8, "little") + bytes([register]) + label.to_bytes(2, "little") + tail
@@ -13,15 +15,6 @@ def record(end=0, kind=0, form=0, mask=0, register=0, label=0, tail=b""):
 
 def entries(*keys):
     return bytes([len(keys)]) + b"".join(bytes([name]) + index.to_bytes(2, "little") for name, index in keys)
-
-
-def circuit_file(records):
-    n = len(records)
-    at, pairs = 2 + 4 * n, b""
-    for r in records:
-        pairs += at.to_bytes(2, "little") + len(r).to_bytes(2, "little")
-        at += len(r)
-    return n.to_bytes(2, "little") + pairs + b"".join(records)
 
 
 GOOD = circuit_file([
@@ -136,4 +129,5 @@ def main():
         print(f"{title}: {text(parse_all(s))}")
 
 
-main()
+if __name__ == "__main__":
+    main()

@@ -1,0 +1,120 @@
+#!/usr/bin/env python3
+"""Circuit files and their bench notation.
+
+  circuit.py write 'B{0} B{1} B{0,1}' > case2.circuit   a circuit file from bench notation (or from a file's text, on standard input, with '-')
+  circuit.py show < case2.circuit                        each record of a circuit file, readably
+
+A record of the notation is an end, B (back) or F (front), what it takes, and, where it has one, its register form:
+  B{0,1}  F{5}  B{}          a set of qubits, 0 to 63
+  B All   F All              all qubits
+  B None                     no qubit
+  B{0}/Set (1,0) (1,2)       register entries (name, index), ascending; also B None/Set .., B All/Set ..
+  B None/All name 2          every entry of the name; B None/AllQubits name 2
+  Bit name 1 length 2        a definition, of Bit, Float, Usize or Complex; F Bit .. at the front
+Behind a record may stand `label 7` and `kind 5`. A semicolon between records may be left out."""
+import re
+import struct
+import sys
+
+KINDS = ["", "Bit", "Float", "Usize", "Complex"]
+RECORD = re.compile(r"""\s*(?:
+    (?:(?P<dend>[BF])\s+)?(?P<kind>Bit|Float|Usize|Complex)\s+name\s+(?P<dname>\d+)\s+length\s+(?P<length>\d+)
+  | (?P<end>[BF])\s*(?P<qubits>All|None|\{[\d,\s]*\})
+    (?:/(?:(?P<form>AllQubits|All)\s+name\s+(?P<name>\d+)|Set(?P<keys>(?:\s*\(\s*\d+\s*,\s*\d+\s*\))*)))?
+  )(?:\s+label\s+(?P<label>\d+))?(?:\s+kind\s+(?P<five>5))?\s*;?""", re.X)
+
+
+def number(text, most, what):
+    n = int(text or 0)
+    if n > most:
+        sys.exit(f"circuit.py: {what} {n} is over {most}")
+    return n
+
+
+def record(m):
+    """The bytes of one record, as document 01 lays them out."""
+    label = struct.pack("<H", number(m["label"], 65535, "label"))
+    if m["kind"]:
+        end = int(m["dend"] == "F")
+        tail = struct.pack("<BH", number(m["dname"], 255, "name"), number(m["length"], 65535, "length"))
+        return bytes([end, KINDS.index(m["kind"]), 0]) + bytes(8) + b"\x04" + label + tail
+    mask = 0
+    for q in re.findall(r"\d+", m["qubits"]):
+        mask |= 1 << number(q, 63, "qubit")
+    form = {"N": 0, "A": 1}.get(m["qubits"][0], 2)
+    register, tail = 0, b""
+    if m["form"]:
+        register, tail = (1 if m["form"] == "All" else 2), bytes([number(m["name"], 255, "name")])
+    elif m["keys"] is not None:
+        keys = [(number(a, 255, "name"), number(b, 65535, "index")) for a, b in re.findall(r"\(\s*(\d+)\s*,\s*(\d+)", m["keys"])]
+        register, tail = 3, bytes([len(keys)]) + b"".join(struct.pack("<BH", *k) for k in keys)
+    head = bytes([int(m["end"] == "F"), 5 if m["five"] else 0, form])
+    return head + struct.pack("<Q", mask) + bytes([register]) + label + tail
+
+
+def circuit_file(records):
+    """A circuit file of these records' bytes, without slack."""
+    at = 2 + 4 * len(records)
+    pairs = b""
+    for r in records:
+        pairs += struct.pack("<HH", at, len(r))
+        at += len(r)
+    if records and at - len(records[-1]) > 65535:
+        sys.exit("circuit.py: an offset is over 65535")
+    return struct.pack("<H", len(records)) + pairs + b"".join(records)
+
+
+def parse(text):
+    records, at = [], 0
+    text = re.sub(r"#.*", "", text)
+    while text[at:].strip():
+        m = RECORD.match(text, at)
+        if not m:
+            sys.exit(f"circuit.py: no record at '{text[at:].strip()[:20]}'")
+        records.append(record(m))
+        at = m.end()
+    return records
+
+
+def shown(r):
+    """One record, in the notation; its bytes where it breaks the rule of a length."""
+    if len(r) < 14:
+        return "bytes " + r.hex()
+    end, kind, form = "BF"[r[0] & 1], r[1], r[2]
+    label = struct.unpack("<H", r[12:14])[0]
+    if 1 <= kind <= 4 and len(r) == 17:
+        name, length = struct.unpack("<BH", r[14:17])
+        text = ("F " if end == "F" else "") + f"{KINDS[kind]} name {name} length {length}"
+    else:
+        mask = struct.unpack("<Q", r[3:11])[0]
+        qubits = ",".join(str(q) for q in range(64) if mask >> q & 1)
+        text = end + {0: " None", 1: " All"}.get(form, "{" + qubits + "}")
+        if r[11] in (1, 2) and len(r) == 15:
+            text += f"/{['All', 'AllQubits'][r[11] - 1]} name {r[14]}"
+        elif r[11] == 3 and len(r) >= 15:
+            keys = [struct.unpack("<BH", r[i:i + 3]) for i in range(15, len(r) - 2, 3)]
+            text += "/Set" + "".join(f" ({a},{b})" for a, b in keys)
+    return text + (f" label {label}" if label else "") + (" kind 5" if kind == 5 else "")
+
+
+def show(data):
+    if len(data) < 2 or len(data) < 2 + 4 * struct.unpack("<H", data[:2])[0]:
+        sys.exit("circuit.py: the file is too short for its header and pairs")
+    n = struct.unpack("<H", data[:2])[0]
+    for i in range(n):
+        offset, length = struct.unpack("<HH", data[2 + 4 * i:6 + 4 * i])
+        print(f"{i}: {shown(data[offset:offset + length])}")
+
+
+def main(words):
+    if words[:1] == ["write"] and len(words) == 2:
+        text = sys.stdin.read() if words[1] == "-" else words[1]
+        sys.stdout.buffer.write(circuit_file(parse(text)))
+    elif words == ["show"]:
+        show(sys.stdin.buffer.read())
+    else:
+        sys.exit(__doc__)
+
+
+if __name__ == "__main__":
+    main(sys.argv[1:])
