@@ -1,0 +1,174 @@
+// The limits: 512 nodes at either end and the 513th refused, 2,048 edges and one more refused, 256 register entries and one more refused.
+ghost use Prim.Native.Nat.{_+_, _≤_, _<_};
+use file::Refusal;
+use file::RefusalValue;
+use graph::CircuitDag;
+use insertion::Answer;
+use insertion::Loaded;
+use insertion::Outcome;
+use libc::STDOUT_FILENO;
+
+// Byte b of gate k's mask. Plain: qubit 0. In layers of 8: row k of an 8 x 8 grid of qubits in one layer, column k in the next, so that a
+// gate has one qubit from every gate of the layer before.
+fn mask_byte(layers: bool, k: usize, b: usize) -> u8 {
+    let j = k % 8;
+    if !layers {
+        return if b == 0 { 1 } else { 0 };
+    }
+    if k / 8 % 2 == 0 {
+        return if b == j { 255 } else { 0 };
+    }
+    1 << j
+}
+
+// Record k of the file, at a place: an end, a Set, its mask; the other bytes are zeros.
+fn put_gate(file: &mut [u8; 9218], at: usize, front: u8, layers: bool, k: usize)
+    requires { ⌜ at + 14 ≤ 9218 ⌝ }
+{
+    file[at] = front;
+    file[at + 2] = 2;
+    let mut b: usize = 0;
+    while b < 8 {
+        file[at + 3 + b] = mask_byte(layers, k, b);
+        b += 1;
+    }
+}
+
+// A file of n gates, at the start of the array.
+fn gates(n: usize, front: u8, layers: bool) -> [u8; 9218]
+    requires { ⌜ n ≤ 512 ⌝ }
+{
+    let mut file = [0u8; 9218];
+    file[0] = (n % 256) as u8;
+    file[1] = (n / 256) as u8;
+    let mut k: usize = 0;
+    while k < n {
+        let pair = 2 + 4 * k;
+        let at = 2 + 4 * n + 14 * k;
+        file[pair] = (at % 256) as u8;
+        file[pair + 1] = (at / 256 % 256) as u8;
+        file[pair + 2] = 14;
+        put_gate(&mut file, at, front, layers, k);
+        k += 1;
+    }
+    file
+}
+
+fn print(text: &[u8]) {
+    io::write_all(STDOUT_FILENO, text);
+}
+
+fn print_number(n: usize) {
+    io::print_decimal(STDOUT_FILENO, n as u64);
+}
+
+// A place, with its sign.
+fn print_place(place: i16) {
+    if place < 0 {
+        print(b"-");
+        let k = (!place) as usize;
+        if k < 512 {
+            print_number(k + 1);
+        }
+        return;
+    }
+    print_number(place as usize);
+}
+
+fn print_refusal(r: Refusal) {
+    print(b"refused ");
+    print_number(file::refusal_number(r) as usize);
+    let value = file::refusal_value(r);
+    match value {
+        RefusalValue::Nothing => {}
+        RefusalValue::At(i) => {
+            print(b" at ");
+            print_number(i);
+        }
+    }
+    print(b"\n");
+}
+
+// What one more record gives.
+fn print_insertion(title: &[u8], dag: CircuitDag, record: &[u8]) {
+    print(title);
+    let inserted = insertion::insert(dag, record);
+    let answer = inserted.answer;
+    match answer {
+        Answer::Node(v) => {
+            print(b"node ");
+            print_number(v.0 as usize);
+            print(b"\n");
+        }
+        Answer::Refused(r) => print_refusal(r),
+    }
+}
+
+// The counts of a loaded graph, and the place of a node.
+fn print_graph(title: &[u8], dag: CircuitDag, v: usize)
+    requires { ⌜ v < 512 ⌝ }
+{
+    print(title);
+    print_number(dag.nodes.count);
+    print(b" nodes, ");
+    print_number(dag.edges.count);
+    print(b" edges, ");
+    print_number(dag.last_registers.count);
+    print(b" entries, node ");
+    print_number(v);
+    print(b" at place ");
+    let places = dag.nodes.place;
+    print_place(places[v]);
+    print(b"\n");
+}
+
+// The outcome of the file in the first n bytes, and what one more record on its graph gives.
+fn print_load(title: &[u8], bytes: &[u8], n: usize, v: usize, record: &[u8])
+    requires { ⌜ v < 512 ⌝ }
+{
+    let start: usize = 0;
+    if bytes.len() < n {
+        return;
+    }
+    let loaded = insertion::load(&bytes[start..n]);
+    let answer = loaded.answer;
+    match answer {
+        Outcome::Done => {
+            print_graph(title, loaded.graph, v);
+            print_insertion(b"  one more: ", loaded.graph, record);
+        }
+        Outcome::Refused(r) => {
+            print(title);
+            print_refusal(r);
+        }
+    }
+}
+
+// A file of one definition of name 1.
+fn definition(length: u16) -> [u8; 23] {
+    let mut file = [0u8; 23];
+    file[0] = 1;
+    file[2] = 6;
+    file[4] = 17;
+    file[7] = 1;
+    file[17] = 4;
+    file[20] = 1;
+    file[21] = (length % 256) as u8;
+    file[22] = (length / 256) as u8;
+    file
+}
+
+fn main() {
+    let gate = [0u8, 0, 2, 1, 0, 0, 0, 0, 0, 0, 0, 0, 0, 0];
+    let entry = [0u8, 0, 0, 0, 0, 0, 0, 0, 0, 0, 0, 3, 0, 0, 1, 2, 0, 0];
+    let back = gates(512, 0, false);
+    print_load(b"512 at the back: ", &back, 9218, 511, &gate);
+    let front = gates(512, 1, false);
+    print_load(b"512 at the front: ", &front, 9218, 511, &gate);
+    let layers = gates(264, 0, true);
+    print_load(b"33 layers of 8: ", &layers, 4754, 263, &gate);
+    let most = definition(256);
+    print_load(b"a definition of 256: ", &most, 23, 0, &entry);
+    let over = definition(257);
+    print_load(b"a definition of 257: ", &over, 23, 0, &entry);
+}
