@@ -3,8 +3,6 @@ use Rattle.walk.specs.Blocks.{start}
 use borrow.Author.Needs.{needs}
 use Rattle.walk.proofs.ParallelBlocks.new.Statement.{statement}
 use Rattle.walk.proofs.ParallelBlocks.new.Tie as tie
-use Rattle.walk.proofs.ParallelBlocks.new.Reads as reads
-use Rattle.walk.proofs.ParallelBlocks.new.Lts as lts
 
 returns : tie.Need-returns
 unfolding start

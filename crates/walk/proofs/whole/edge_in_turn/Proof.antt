@@ -1,8 +1,6 @@
 -- `walk::whole::edge_in_turn` meets its contract. Assumes nothing.
-use mathlib.Core.Path.{_≡_, refl, sym, _∙_}
-use mathlib.Core.Bool.{Bool, true, false}
-use Prim.Native.Nat.{ℕ, _+_, _-_, _≤_, _<_}
-use native.Mathlib.Omega.{arith}
+use mathlib.Core.Path.{refl}
+use Prim.Native.Nat.{_-_}
 use borrow.Author.Needs.{needs}
 use Rattle.walk.proofs.whole.edge_in_turn.Statement.{statement}
 use Rattle.walk.proofs.whole.edge_in_turn.Tie as tie

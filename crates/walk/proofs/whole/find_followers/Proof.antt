@@ -1,8 +1,5 @@
 -- `walk::whole::find_followers` meets its contract. Assumes nothing.
-use mathlib.Core.Path.{_≡_, refl, sym, _∙_}
-use mathlib.Core.Bool.{Bool, true, false}
-use Prim.Native.Nat.{ℕ, _+_, _-_, _≤_, _<_}
-use native.Mathlib.Omega.{arith}
+use Prim.Native.Nat.{_-_}
 use Rattle.graph.proofs.SizeLaws.{dag-sized}
 use Rattle.walk.specs.Numbering.{Joined}
 use Rattle.walk.proofs.WholeLaws.{joined}

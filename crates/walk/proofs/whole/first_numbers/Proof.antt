@@ -1,7 +1,6 @@
 -- `walk::whole::first_numbers` meets its contract. Assumes nothing.
-use mathlib.Core.Path.{_≡_, refl, sym, _∙_}
-use mathlib.Core.Bool.{Bool, true, false}
-use Prim.Native.Nat.{ℕ, _+_, _-_, _≤_, _<_}
+use mathlib.Core.Path.{refl}
+use Prim.Native.Nat.{_-_}
 use native.Mathlib.Omega.{arith}
 use Rattle.walk.proofs.NumberingLaws.{Firsts, firsts-more, firsts-done}
 use borrow.Author.Needs.{needs}

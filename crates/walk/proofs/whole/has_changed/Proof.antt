@@ -1,9 +1,6 @@
 -- `walk::whole::has_changed` meets its contract. Assumes nothing.
-use mathlib.Core.Path.{_≡_, refl, sym, _∙_}
-use mathlib.Core.Bool.{Bool, true, false}
-use Prim.Native.Nat.{ℕ, _+_, _-_, _≤_, _<_}
-use native.Mathlib.Omega.{arith}
-use borrow.Author.Needs.{needs}
+use mathlib.Core.Path.{refl}
+use Prim.Native.Nat.{_-_}
 use Rattle.walk.proofs.whole.has_changed.Statement.{statement}
 use Rattle.walk.proofs.whole.has_changed.Tie as tie
 

@@ -1,7 +1,5 @@
 -- `walk::whole::has_member` meets its contract. Assumes nothing.
-use mathlib.Core.Path.{_≡_, refl, sym, _∙_}
-use mathlib.Core.Bool.{Bool, true, false}
-use Prim.Native.Nat.{ℕ, _+_, _-_, _≤_, _<_}
+use Prim.Native.Nat.{_-_}
 use native.Mathlib.Omega.{arith}
 use Rattle.walk.proofs.StepLaws.{Unmarked, member-found, member-more, member-none}
 use borrow.Author.Needs.{needs}

@@ -1,12 +1,8 @@
 -- `walk::whole::is_free` meets its contract. Assumes nothing.
-use mathlib.Core.Path.{_≡_, refl, sym, _∙_}
-use mathlib.Core.Bool.{Bool, true, false}
-use Prim.Native.Nat.{ℕ, _+_, _-_, _≤_, _<_}
-use native.Mathlib.Omega.{arith}
-use lib.Dec.{eqb}
+use mathlib.Core.Path.{sym}
+use Prim.Native.Nat.{_-_}
 use borrow.Author.Tests.{eq-eqb, ne-eqb}
 use Rattle.walk.proofs.StepLaws.{and-not, and-true}
-use borrow.Author.Needs.{needs}
 use Rattle.walk.proofs.whole.is_free.Statement.{statement}
 use Rattle.walk.proofs.whole.is_free.Tie as tie
 

@@ -3,8 +3,6 @@ use mathlib.Core.Path.{refl}
 use borrow.Author.Needs.{needs}
 use Rattle.walk.proofs.whole.is_last.Statement.{statement}
 use Rattle.walk.proofs.whole.is_last.Tie as tie
-use Rattle.walk.proofs.whole.is_last.Reads as reads
-use Rattle.walk.proofs.whole.is_last.Lts as lts
 
 returns : tie.Need-returns
 returns c = rw (c .if1 .taken) refl

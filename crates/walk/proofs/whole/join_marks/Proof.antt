@@ -1,8 +1,5 @@
 -- `walk::whole::join_marks` meets its contract. Assumes nothing.
-use mathlib.Core.Path.{_≡_, refl, sym, _∙_}
-use mathlib.Core.Bool.{Bool, true, false}
-use Prim.Native.Nat.{ℕ, _+_, _-_, _≤_, _<_}
-use native.Mathlib.Omega.{arith}
+use Prim.Native.Nat.{_-_}
 use Rattle.walk.proofs.StepLaws.{Joining, joining-begin, joining-more, joining-done}
 use borrow.Author.Needs.{needs}
 use Rattle.walk.proofs.whole.join_marks.Statement.{statement}

@@ -1,7 +1,5 @@
 -- `walk::whole::marks_below` meets its contract. Assumes nothing.
-use mathlib.Core.Path.{_≡_, refl, sym, _∙_}
-use mathlib.Core.Bool.{Bool, true, false}
-use Prim.Native.Nat.{ℕ, _+_, _-_, _≤_, _<_}
+use Prim.Native.Nat.{_-_}
 use native.Mathlib.Omega.{arith}
 use Rattle.graph.proofs.CheckLaws.{BlockPassed, member-above, block-more, block-done}
 use borrow.Author.Needs.{needs}

@@ -1,7 +1,5 @@
 -- `walk::whole::number_targets` meets its contract. Assumes nothing.
-use mathlib.Core.Path.{_≡_, refl, sym, _∙_}
-use mathlib.Core.Bool.{Bool, true, false}
-use Prim.Native.Nat.{ℕ, _+_, _-_, _≤_, _<_}
+use Prim.Native.Nat.{_-_, _<_}
 use native.Mathlib.Omega.{arith}
 use Rattle.walk.proofs.NumberingLaws.{Zeroing, zero-begin, zero-more, zero-done}
 use borrow.Author.Needs.{needs}

@@ -1,10 +1,7 @@
 -- `walk::whole::settle` meets its contract. Assumes nothing.
-use mathlib.Core.Path.{_≡_, refl, sym, _∙_}
-use mathlib.Core.Bool.{Bool, true, false}
-use Prim.Native.Nat.{ℕ, _+_, _-_, _≤_, _<_}
-use native.Mathlib.Omega.{arith}
+use Prim.Native.Nat.{_-_}
 use Rattle.walk.proofs.NumberingLaws.{Rounds, rounds-begin, rounds-more, rounds-still, rounds-done}
-use borrow.Author.Tests.{not-true, not-false}
+use borrow.Author.Tests.{not-true}
 use borrow.Author.Needs.{needs}
 use Rattle.walk.proofs.whole.settle.Statement.{statement}
 use Rattle.walk.proofs.whole.settle.Tie as tie

@@ -1,7 +1,5 @@
 -- `walk::whole::sweep` meets its contract. Assumes nothing.
-use mathlib.Core.Path.{_≡_, refl, sym, _∙_}
-use mathlib.Core.Bool.{Bool, true, false}
-use Prim.Native.Nat.{ℕ, _+_, _-_, _≤_, _<_}
+use Prim.Native.Nat.{_-_, _<_}
 use native.Mathlib.Omega.{arith}
 use Rattle.walk.proofs.NumberingLaws.{Sweeping, edge-low, sweep-begin, sweep-more, sweep-done}
 use borrow.Author.Needs.{needs}

@@ -1,18 +1,14 @@
 -- `walk::whole::whole_walk` meets its contract. Assumes nothing.
-use mathlib.Core.Path.{_≡_, refl, sym, _∙_}
-use mathlib.Core.Bool.{Bool, true, false}
-use Prim.Native.Nat.{ℕ, _+_, _-_, _≤_, _<_}
-use native.Mathlib.Omega.{arith}
-use lib.ListN.{length}
+use mathlib.Core.Path.{_≡_, sym, _∙_}
+use mathlib.Core.Bool.{true}
+use Prim.Native.Nat.{_-_}
 use borrow.Author.Tests.{not-true, not-false}
-use Rattle.graph.specs.Dag.{size}
 use Rattle.graph.specs.Soundness.{sound}
 use Rattle.walk.proofs.BlockLaws.{W}
 use Rattle.walk.proofs.WholeLaws.{walk-unsound, walk-short, walk-whole}
 use borrow.Author.Needs.{needs}
 use Rattle.walk.proofs.whole.whole_walk.Statement.{statement}
 use Rattle.walk.proofs.whole.whole_walk.Tie as tie
-use Rattle.graph.proofs.is_sound.Reads as is-sound-reads
 
 accepted : (c : tie.Else1) → sound (c .before .before .before .args .g) ≡ true
 accepted c = sym (c .before .is-sound .ensures) ∙ not-false _ (c .if1 .left)
