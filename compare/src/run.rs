@@ -1,0 +1,226 @@
+//! The comparison: exhaustive small circuits, random ones up to every limit, queries, steps from any state, conversions, damaged files, unsound graphs.
+use crate::checks::{self, Check, Counts};
+use crate::circuits::{Qubits, Random, Record, Registers};
+use std::time::Instant;
+
+/// Leaves out records as long as the check still fails.
+fn shrink(check: Check, records: &[Record], seed: u64) -> (Vec<Record>, String) {
+    let mut smallest = records.to_vec();
+    let mut message = check(&smallest, seed, &mut Counts::default()).expect_err("it failed before");
+    let mut i = 0;
+    while i < smallest.len() {
+        let mut fewer = smallest.clone();
+        fewer.remove(i);
+        match check(&fewer, seed, &mut Counts::default()) {
+            Err(m) => (smallest, message, i) = (fewer, m, 0),
+            Ok(()) => i += 1,
+        }
+    }
+    (smallest, message)
+}
+
+struct Runner {
+    counts: Counts,
+    started: Instant,
+}
+
+impl Runner {
+    fn check(&mut self, name: &str, check: Check, records: &[Record], seed: u64) {
+        if check(records, seed, &mut self.counts).is_err() {
+            let (smallest, message) = shrink(check, records, seed);
+            println!("DIFFERENCE in {name}, seed {seed}: {message}");
+            println!("smallest input, {} records:", smallest.len());
+            smallest.iter().for_each(|r| println!("  {r:?}"));
+            std::process::exit(1);
+        }
+    }
+
+    fn say(&self, what: &str, number: u64) {
+        println!("{what}: {number} ({:.0} s)", self.started.elapsed().as_secs_f64());
+    }
+
+    /// Every list of up to `length` letters.
+    fn exhaust(&mut self, what: &str, alphabet: &[Record], length: usize) {
+        let mut number = 0;
+        let mut list = Vec::new();
+        self.extend(what, alphabet, length, &mut list, &mut number);
+        self.say(&format!("all lists of up to {length} records over {} ({what})", alphabet.len()), number);
+    }
+
+    fn extend(&mut self, what: &str, alphabet: &[Record], left: usize, list: &mut Vec<Record>, number: &mut u64) {
+        self.check(what, checks::circuit, list, *number);
+        *number += 1;
+        if left == 0 {
+            return;
+        }
+        for letter in alphabet {
+            list.push(Record { label: list.len() as u16, ..letter.clone() });
+            self.extend(what, alphabet, left - 1, list, number);
+            list.pop();
+        }
+    }
+}
+
+fn both_ends(letters: Vec<(u8, Qubits, Registers)>) -> Vec<Record> {
+    [false, true]
+        .iter()
+        .flat_map(|&front| {
+            letters.iter().map(move |(kind, qubits, registers)| Record {
+                front,
+                kind: *kind,
+                label: 0,
+                qubits: qubits.clone(),
+                registers: registers.clone(),
+            })
+        })
+        .collect()
+}
+
+/// Every set of 3 qubits, and All.
+fn qubit_alphabet() -> Vec<Record> {
+    let mut letters: Vec<_> = (0..8).map(|mask| (0, Qubits::Set(mask), Registers::None)).collect();
+    letters.push((0, Qubits::All, Registers::None));
+    both_ends(letters)
+}
+
+/// Every register form over two names.
+fn register_alphabet() -> Vec<Record> {
+    both_ends(vec![
+        (1, Qubits::None, Registers::Definition(1, 2)),
+        (3, Qubits::None, Registers::Definition(2, 1)),
+        (0, Qubits::None, Registers::All(1)),
+        (5, Qubits::None, Registers::AllQubits(2)),
+        (0, Qubits::None, Registers::Set(vec![(1, 0)])),
+        (0, Qubits::None, Registers::Set(vec![(1, 1), (2, 0)])),
+    ])
+}
+
+/// Records with qubits and registers, of both kinds that may have qubits.
+fn mixed_alphabet() -> Vec<Record> {
+    both_ends(vec![
+        (0, Qubits::None, Registers::None),
+        (5, Qubits::None, Registers::None),
+        (0, Qubits::None, Registers::Set(vec![])),
+        (2, Qubits::None, Registers::Definition(1, 0)),
+        (4, Qubits::None, Registers::Definition(1, 2)),
+        (0, Qubits::Set(1), Registers::Set(vec![(1, 0)])),
+        (5, Qubits::Set(3), Registers::All(1)),
+        (5, Qubits::All, Registers::AllQubits(1)),
+        (0, Qubits::All, Registers::Set(vec![(1, 0), (1, 1)])),
+        (5, Qubits::Set(0), Registers::Set(vec![(2, 7)])),
+    ])
+}
+
+fn random_registers(random: &mut Random, wide: bool) -> Registers {
+    let names = if wide { 256 } else { 3 };
+    let indices = if wide { 65536 } else { 4 };
+    let name = random.below(names) as u8;
+    match random.below(8) {
+        0..=3 => Registers::None,
+        4 => Registers::All(name),
+        5 => Registers::AllQubits(name),
+        _ => {
+            let mut keys: Vec<(u8, u16)> =
+                (0..random.below(17)).map(|_| (random.below(names) as u8, random.below(indices) as u16)).collect();
+            keys.sort();
+            keys.dedup();
+            Registers::Set(keys)
+        }
+    }
+}
+
+/// A circuit of n records. Which qubits, how many all-qubit pulses, which ends and how many registers it has is drawn for each circuit.
+pub fn random_circuit(random: &mut Random, n: usize) -> Vec<Record> {
+    let width = [1, 2, 3, 5, 8, 16, 64][random.below(7)];
+    let most = 1 + random.below(width.min(8));
+    let all_in = [2, 5, 20, 100, 1000][random.below(5)];
+    let ends = random.below(3);
+    let classical = random.below(3);
+    let wide = random.one_in(4);
+    (0..n)
+        .map(|i| {
+            let front = ends == 1 || ends == 2 && random.one_in(2);
+            let label = i as u16;
+            if classical > 0 && random.one_in(8) {
+                let length = if wide { [0, 1, 200, 256, 257, 65535][random.below(6)] } else { random.below(5) as u16 };
+                let name = random.below(if wide { 256 } else { 3 }) as u8;
+                let kind = 1 + random.below(4) as u8;
+                return Record { front, kind, label, qubits: Qubits::None, registers: Registers::Definition(name, length) };
+            }
+            let qubits = if random.one_in(all_in) {
+                Qubits::All
+            } else if random.one_in(12) {
+                Qubits::None
+            } else if random.one_in(30) {
+                Qubits::Set(0)
+            } else {
+                Qubits::Set((0..most).fold(0, |m, _| m | 1 << random.below(width)))
+            };
+            let registers = if classical == 2 { random_registers(random, wide) } else { Registers::None };
+            Record { front, kind: if random.one_in(6) { 5 } else { 0 }, label, qubits, registers }
+        })
+        .collect()
+}
+
+pub fn main(scale: usize) {
+    let mut runner = Runner { counts: Counts::default(), started: Instant::now() };
+    let depth = if scale == 0 { 3 } else { 5 };
+    runner.exhaust("sets of 3 qubits and All, both ends", &qubit_alphabet(), depth);
+    runner.exhaust("register forms, both ends", &register_alphabet(), depth);
+    runner.exhaust("qubits and registers, both ends", &mixed_alphabet(), depth - 1);
+    let mut random = Random::new(7);
+    let sizes: [(usize, usize, u64); 4] = [(0, 12, 200_000), (13, 64, 12_000), (65, 256, 800), (400, 512, 200)];
+    let part = if scale == 0 { 20 } else { 1 };
+    for (low, high, number) in sizes {
+        for seed in 0..number / part {
+            let n = low + random.below(high - low + 1);
+            let records = random_circuit(&mut random, n);
+            runner.check("random circuits", checks::circuit, &records, seed);
+        }
+        runner.say(&format!("random circuits of {low} to {high} records"), number / part);
+    }
+    for seed in 0..40 / part.min(40) {
+        let records = limit_circuit(&mut random, seed as usize);
+        runner.check("circuits past the limits", checks::circuit, &records, seed);
+    }
+    runner.say("circuits past 512 nodes, 2,048 edges, 256 register entries", 40 / part);
+    let damaged: [(&str, Check, u64); 3] = [
+        ("damaged files", checks::damaged, 300_000),
+        ("damaged records in single insertions", checks::damaged_record, 200_000),
+        ("damaged graphs", checks::damaged_graph, 200_000),
+    ];
+    for (what, check, number) in damaged {
+        for seed in 0..number / part {
+            let n = random.below(9);
+            let records = random_circuit(&mut random, n);
+            runner.check(what, check, &records, seed);
+        }
+        runner.say(what, number / part);
+    }
+    println!();
+    for (what, number) in &runner.counts.0 {
+        println!("{what}: {number}");
+    }
+    println!("no difference");
+}
+
+/// Circuits that meet a limit: 520 records, 33 layers and more, many register keys.
+fn limit_circuit(random: &mut Random, number: usize) -> Vec<Record> {
+    let mut records = match number % 4 {
+        0 => random_circuit(random, 520),
+        1 => crate::circuits::layers(),
+        2 => (0..40)
+            .map(|k| Record {
+                front: random.one_in(2),
+                kind: 0,
+                label: k,
+                qubits: Qubits::Set(1 << random.below(64)),
+                registers: Registers::Set((0..16).map(|i| (k as u8, 16 * k + i)).collect()),
+            })
+            .collect(),
+        _ => (0..500).map(|_| Record::gate(random.one_in(2), random.next() & random.next())).collect(),
+    };
+    records.extend(random_circuit(random, 20));
+    records.iter_mut().enumerate().for_each(|(i, r)| r.label = i as u16);
+    records
+}

@@ -1,0 +1,206 @@
+//! A safe wrapper over the static library of crate `host`. The structs are declared again as `#[repr(C)]`; slices cross as pointer and length. The
+//! library's functions demand nothing of their arguments, so every wrapper here is safe on any value, with one exception: a `bool` of Rust is 0 or 1,
+//! so the marks are `bool` here too, and no other byte can be handed over.
+
+#[repr(C)]
+#[derive(Clone, Copy)]
+pub struct Nodes {
+    pub count: usize,
+    pub kind: [u8; 512],
+    pub form: [u8; 512],
+    pub label: [u16; 512],
+    pub place: [i16; 512],
+}
+
+#[repr(C)]
+#[derive(Clone, Copy)]
+pub struct Edges {
+    pub count: usize,
+    pub from: [u16; 2048],
+    pub to: [u16; 2048],
+}
+
+#[repr(C)]
+#[derive(Clone, Copy)]
+pub struct End {
+    pub node: [u16; 64],
+    pub all: u16,
+    pub block: [bool; 512],
+}
+
+#[repr(C)]
+#[derive(Clone, Copy)]
+pub struct Registers {
+    pub count: usize,
+    pub name: [u8; 256],
+    pub index: [u16; 256],
+    pub node: [u16; 256],
+}
+
+#[repr(C)]
+#[derive(Clone, Copy)]
+pub struct Commuting {
+    pub count: usize,
+    pub list: [u16; 512],
+}
+
+#[repr(C)]
+#[derive(Clone, Copy)]
+pub struct CircuitDag {
+    pub nodes: Nodes,
+    pub edges: Edges,
+    pub first: End,
+    pub last: End,
+    pub first_registers: Registers,
+    pub last_registers: Registers,
+    pub commuting: Commuting,
+    pub backs: usize,
+    pub fronts: usize,
+}
+
+#[repr(C)]
+#[derive(Clone, Copy, PartialEq, Eq, Debug)]
+pub struct Walk {
+    pub current: [bool; 512],
+    pub executed: [bool; 512],
+}
+
+#[repr(C)]
+#[derive(Clone, Copy, PartialEq, Eq, Debug)]
+pub struct Answer {
+    pub refusal: usize,
+    pub value: usize,
+}
+
+#[repr(C)]
+#[derive(Clone, Copy)]
+pub struct GraphAnswer {
+    pub answer: Answer,
+    pub graph: CircuitDag,
+}
+
+#[repr(C)]
+#[derive(Clone, Copy)]
+pub struct StepAnswer {
+    pub answer: Answer,
+    pub walk: Walk,
+}
+
+/// Where a refusal returns its number alone, and where a step says None.
+pub const NONE: usize = 65535;
+
+mod library {
+    use super::*;
+
+    #[allow(improper_ctypes)]
+    extern "C" {
+        pub fn sawhekonu_new() -> CircuitDag;
+        pub fn sawhekonu_load(file: *const u8, length: usize) -> GraphAnswer;
+        pub fn sawhekonu_insert(dag: CircuitDag, part: *const u8, length: usize) -> GraphAnswer;
+        pub fn sawhekonu_is_sound(dag: CircuitDag) -> bool;
+        pub fn sawhekonu_from_circuit(file: *const u8, length: usize) -> GraphAnswer;
+        pub fn sawhekonu_to_circuit(dag: CircuitDag, buffer: *mut u16, length: usize) -> Answer;
+        pub fn sawhekonu_execution_blocked(
+            dag: CircuitDag,
+            executed: *const u16,
+            executed_length: usize,
+            node: u16,
+            buffer: *mut u16,
+            length: usize,
+        ) -> Answer;
+        pub fn sawhekonu_blocking_predecessors(
+            dag: CircuitDag,
+            executed: *const u16,
+            executed_length: usize,
+            node: u16,
+            buffer: *mut u16,
+            length: usize,
+        ) -> Answer;
+        pub fn sawhekonu_successors(dag: CircuitDag, node: u16, buffer: *mut u16, length: usize) -> Answer;
+        pub fn sawhekonu_new_front_layer(
+            dag: CircuitDag,
+            executed: *const u16,
+            executed_length: usize,
+            layer: *const u16,
+            layer_length: usize,
+            node: u16,
+            buffer: *mut u16,
+            length: usize,
+        ) -> Answer;
+        pub fn sawhekonu_next(dag: CircuitDag, state: Walk, buffer: *mut u16, length: usize) -> StepAnswer;
+        pub fn sawhekonu_whole_walk(dag: CircuitDag, buffer: *mut u16, length: usize) -> Answer;
+    }
+}
+
+impl Walk {
+    pub fn new() -> Walk {
+        Walk { current: [false; 512], executed: [false; 512] }
+    }
+}
+
+impl CircuitDag {
+    pub fn new() -> CircuitDag {
+        // SAFETY: the function takes nothing.
+        unsafe { library::sawhekonu_new() }
+    }
+
+    pub fn insert(&self, part: &[u8]) -> GraphAnswer {
+        // SAFETY: here and below: pointer and length are a slice's own, and the function's contract has no precondition.
+        unsafe { library::sawhekonu_insert(*self, part.as_ptr(), part.len()) }
+    }
+
+    pub fn is_sound(&self) -> bool {
+        unsafe { library::sawhekonu_is_sound(*self) }
+    }
+
+    pub fn to_circuit(&self, buffer: &mut [u16]) -> Answer {
+        unsafe { library::sawhekonu_to_circuit(*self, buffer.as_mut_ptr(), buffer.len()) }
+    }
+
+    pub fn execution_blocked(&self, executed: &[u16], node: u16, buffer: &mut [u16]) -> Answer {
+        unsafe {
+            library::sawhekonu_execution_blocked(*self, executed.as_ptr(), executed.len(), node, buffer.as_mut_ptr(), buffer.len())
+        }
+    }
+
+    pub fn blocking_predecessors(&self, executed: &[u16], node: u16, buffer: &mut [u16]) -> Answer {
+        unsafe {
+            library::sawhekonu_blocking_predecessors(*self, executed.as_ptr(), executed.len(), node, buffer.as_mut_ptr(), buffer.len())
+        }
+    }
+
+    pub fn successors(&self, node: u16, buffer: &mut [u16]) -> Answer {
+        unsafe { library::sawhekonu_successors(*self, node, buffer.as_mut_ptr(), buffer.len()) }
+    }
+
+    pub fn new_front_layer(&self, executed: &[u16], layer: &[u16], node: u16, buffer: &mut [u16]) -> Answer {
+        unsafe {
+            library::sawhekonu_new_front_layer(
+                *self,
+                executed.as_ptr(),
+                executed.len(),
+                layer.as_ptr(),
+                layer.len(),
+                node,
+                buffer.as_mut_ptr(),
+                buffer.len(),
+            )
+        }
+    }
+
+    pub fn next(&self, walk: &Walk, buffer: &mut [u16]) -> StepAnswer {
+        unsafe { library::sawhekonu_next(*self, *walk, buffer.as_mut_ptr(), buffer.len()) }
+    }
+
+    pub fn whole_walk(&self, buffer: &mut [u16]) -> Answer {
+        unsafe { library::sawhekonu_whole_walk(*self, buffer.as_mut_ptr(), buffer.len()) }
+    }
+}
+
+pub fn load(file: &[u8]) -> GraphAnswer {
+    unsafe { library::sawhekonu_load(file.as_ptr(), file.len()) }
+}
+
+pub fn from_circuit(file: &[u8]) -> GraphAnswer {
+    unsafe { library::sawhekonu_from_circuit(file.as_ptr(), file.len()) }
+}

@@ -1,0 +1,94 @@
+-- What the host gets of each answer: two numbers, "this paper's number and values for each of the enum's cases". Assumes nothing.
+use mathlib.Core.List.{List}
+use Prim.Native.Nat.{ℕ}
+use Rattle.file.specs.Refusals.{numberOf, valueOf}
+use Rattle.file.specs.declared.Refusal.{Refusal}
+use Rattle.file.specs.declared.RefusalValue.{RefusalValue}
+use Rattle.file.specs.declared.RefusalValue.the-variants.{Nothing, At}
+use Rattle.graph.specs.declared.Query.{Query}
+use Rattle.graph.specs.declared.Query.the-variants.{Entries, Refused as NotAnswered}
+use Rattle.graph.specs.Queries.{Lent}
+use Rattle.insertion.specs.declared.Answer.{Answer}
+use Rattle.insertion.specs.declared.Answer.the-variants.{Node, Refused as NotInserted}
+use Rattle.insertion.specs.declared.Inserted.{Inserted}
+use Rattle.insertion.specs.declared.Outcome.{Outcome}
+use Rattle.insertion.specs.declared.Outcome.the-variants.{Done, Refused as NotLoaded}
+use Rattle.insertion.specs.declared.Loaded.{Loaded}
+use Rattle.walk.specs.declared.NextBlock.{NextBlock}
+use Rattle.walk.specs.declared.NextBlock.the-variants.{Block, None, Refused as NotStepped}
+use Rattle.walk.specs.declared.BlockCount.{BlockCount}
+use Rattle.walk.specs.declared.BlockCount.the-variants.{Blocks, Refused as NotWalked}
+use Rattle.walk.specs.declared.ParallelBlocks.{ParallelBlocks}
+use Rattle.walk.specs.Blocks.{Stepped, Walked}
+use Rattle.host.specs.declared.HostAnswer.{HostAnswer}
+use Rattle.host.specs.declared.HostGraph.{HostGraph}
+
+-- a refusal's value; 65535 where it returns the number alone
+abbrev pub numberOr : RefusalValue → ℕ
+numberOr Nothing = 65535
+numberOr (At i) = i
+
+-- refused: the document's number and value
+abbrev pub refuses : Refusal → HostAnswer
+refuses r = record { refusal = numberOf r; value = numberOr (valueOf r) }
+
+-- accepted: 0, and what the call found
+abbrev pub accepts : ℕ → HostAnswer
+accepts n = record { refusal = 0; value = n }
+
+-- a query: how many entries it wrote
+abbrev pub ofQuery : Query → HostAnswer
+ofQuery (Entries k) = accepts k
+ofQuery (NotAnswered r) = refuses r
+
+-- an insertion: the node
+abbrev pub ofInserted : Answer → HostAnswer
+ofInserted (Node v) = accepts (v .0)
+ofInserted (NotInserted r) = refuses r
+
+-- a load, a conversion from a circuit
+abbrev pub ofLoaded : Outcome → HostAnswer
+ofLoaded Done = accepts 0
+ofLoaded (NotLoaded r) = refuses r
+
+-- a step: how many nodes the block has; 65535 for None
+abbrev pub ofStep : NextBlock → HostAnswer
+ofStep (Block k) = accepts k
+ofStep None = accepts 65535
+ofStep (NotStepped r) = refuses r
+
+-- the whole walk: how many blocks
+abbrev pub ofWalk : BlockCount → HostAnswer
+ofWalk (Blocks k) = accepts k
+ofWalk (NotWalked r) = refuses r
+
+-- the answer beside the graph
+abbrev pub graphInserted : Inserted → HostGraph
+graphInserted x = record { answer = ofInserted (x .answer); graph = x .graph }
+
+-- the answer beside the graph
+abbrev pub graphLoaded : Loaded → HostGraph
+graphLoaded x = record { answer = ofLoaded (x .answer); graph = x .graph }
+
+-- the answer, and the lent buffer afterwards
+pub record HostLent : Type 0 where
+  pub answer : HostAnswer
+  pub buffer : List ℕ
+
+-- of a query
+abbrev pub lent : Lent → HostLent
+lent x = record { answer = ofQuery (x .answer); buffer = x .buffer }
+
+-- of the whole walk
+abbrev pub walked : Walked → HostLent
+walked x = record { answer = ofWalk (x .answer); buffer = x .buffer }
+
+-- the answer, the walk and the lent buffer afterwards
+pub record HostStepped : Type 0 where
+  pub answer : HostAnswer
+  pub walk : ParallelBlocks
+  pub buffer : List ℕ
+
+-- of a step
+abbrev pub stepped : Stepped → HostStepped
+stepped x = record { answer = ofStep (x .answer); walk = x .walk; buffer = x .buffer }

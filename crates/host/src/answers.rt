@@ -1,0 +1,87 @@
+// Each answer of the crates below as two numbers.
+ghost use mathlib.Core.Path.{_≡_};
+ghost use Rattle.host.specs.Answers.{numberOr, accepts, refuses, ofQuery, ofInserted, ofLoaded, ofStep, ofWalk};
+use crate::HostAnswer;
+use file::Refusal;
+use file::RefusalValue;
+use graph::Query;
+use insertion::Answer;
+use insertion::Outcome;
+use walk::BlockCount;
+use walk::NextBlock;
+
+// A refusal's value.
+fn number_or(v: RefusalValue) -> usize
+    ensures { λ r. ⌜ r ≡ numberOr v ⌝ }
+{
+    match v {
+        RefusalValue::Nothing => 65535,
+        RefusalValue::At(i) => i,
+    }
+}
+
+fn refuse(x: Refusal) -> HostAnswer
+    ensures { λ r. ⌜ r ≡ refuses x ⌝ }
+{
+    let number = file::refusal_number(x);
+    let v = file::refusal_value(x);
+    HostAnswer {
+        refusal: number as usize,
+        value: number_or(v),
+    }
+}
+
+fn accept(n: usize) -> HostAnswer
+    ensures { λ r. ⌜ r ≡ accepts n ⌝ }
+{
+    HostAnswer {
+        refusal: 0,
+        value: n,
+    }
+}
+
+pub(crate) fn of_query(x: Query) -> HostAnswer
+    ensures { λ r. ⌜ r ≡ ofQuery x ⌝ }
+{
+    match x {
+        Query::Entries(k) => accept(k),
+        Query::Refused(c) => refuse(c),
+    }
+}
+
+pub(crate) fn of_inserted(x: Answer) -> HostAnswer
+    ensures { λ r. ⌜ r ≡ ofInserted x ⌝ }
+{
+    match x {
+        Answer::Node(v) => accept(v.0 as usize),
+        Answer::Refused(c) => refuse(c),
+    }
+}
+
+pub(crate) fn of_loaded(x: Outcome) -> HostAnswer
+    ensures { λ r. ⌜ r ≡ ofLoaded x ⌝ }
+{
+    match x {
+        Outcome::Done => accept(0),
+        Outcome::Refused(c) => refuse(c),
+    }
+}
+
+pub(crate) fn of_step(x: NextBlock) -> HostAnswer
+    ensures { λ r. ⌜ r ≡ ofStep x ⌝ }
+{
+    match x {
+        NextBlock::Block(k) => accept(k),
+        NextBlock::None => accept(65535),
+        NextBlock::Refused(c) => refuse(c),
+    }
+}
+
+pub(crate) fn of_walk(x: BlockCount) -> HostAnswer
+    ensures { λ r. ⌜ r ≡ ofWalk x ⌝ }
+{
+    match x {
+        BlockCount::Blocks(k) => accept(k),
+        BlockCount::Refused(c) => refuse(c),
+    }
+}
