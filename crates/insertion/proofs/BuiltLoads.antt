@@ -28,10 +28,9 @@ use Rattle.insertion.specs.declared.Inserted.{Inserted}
 use Rattle.insertion.specs.declared.Outcome.the-variants.{Done}
 use Rattle.insertion.specs.declared.Loaded.{Loaded}
 use Rattle.insertion.specs.Insertion.{nearAll, grown}
-use Rattle.insertion.specs.Limits.{insertAs, insertOf, refused, edgesPass, registersPass}
+use Rattle.insertion.specs.Limits.{accepts, insertAs, insertOf, refused, edgesPass, registersPass}
 use Rattle.insertion.specs.Load.{notLoaded, insertRecords, loadChecked, load}
 use Rattle.insertion.specs.Calls.{graphAfter, final}
-use Rattle.insertion.specs.Arrays.{accepts}
 use Rattle.insertion.specs.Built.{recordsOf, atRecord, stepOf, LoadInserts}
 use Rattle.insertion.proofs.BuiltLaws.{sound-built}
 

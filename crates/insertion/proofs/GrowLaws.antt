@@ -1,13 +1,13 @@
 -- One record's insertion into the arrays of a graph: what its functions leave is the rule's graph. Assumes nothing.
 use mathlib.Core.Path.{_≡_, refl, sym, _∙_, ap, subst}
 use mathlib.Core.Bool.{Bool, true, false, cond, not, _||_, _&&_}
-use mathlib.Core.List.{List, map}
+use mathlib.Core.List.{List, [], _∷_, map}
 use Prim.Native.Nat.{ℕ, _+_, _≤_, _<_}
 use native.Mathlib.Omega.{arith}
 use lib.Dec.{ltb, leb, eqb}
 use lib.IntN.{ℤ}
 use lib.ListN.{length, take, set, getD, length-take}
-use borrow.Author.Tests.{le-ltb, lt-ltb, le-leb, lt-leb}
+use borrow.Author.Tests.{le-ltb, lt-ltb, ltb-false, le-leb, lt-leb}
 use Rattle.file.specs.Records
 use Rattle.file.specs.Records.{front, qubitForm, qubitsOf, formOf, registerFormOf, classicalOf, defines, recordRule, recordOf}
 use Rattle.file.specs.declared.InvolvedClassical.{InvolvedClassical}
@@ -25,17 +25,14 @@ use Rattle.graph.specs.declared.Commuting.{Commuting}
 use Rattle.graph.specs.declared.CircuitDag.{CircuitDag}
 use Rattle.graph.specs.Dag.{node, size}
 use Rattle.insertion.specs.declared.Answer.the-variants.{Node, Refused}
-use Rattle.insertion.specs.declared.links.JoinedEnds.{JoinedEnds}
+use Rattle.insertion.specs.declared.records.GraphCounts.{GraphCounts}
 use Rattle.insertion.specs.declared.registers.EndCounts.{EndCounts}
-use Rattle.insertion.specs.declared.records.GraphState.{GraphState}
-use Rattle.insertion.specs.declared.records.LinkedRecord.{LinkedRecord}
-use Rattle.insertion.specs.declared.records.RecordInserted.{RecordInserted}
 use Rattle.insertion.specs.Registers.{Maps, registersBy, registersAfter}
 use Rattle.insertion.specs.Insertion.{Linked, nearAll, link, linkBy, withEdges, withNode, withCommuting, facing, linked, registered, commutes, placeAfter, grown}
-use Rattle.insertion.specs.Limits.{insertAs, edgesPass, registersPass}
-use Rattle.insertion.specs.Ends.{endOf, EndFits, linkAt, JoinedEndsBy, EdgesAdded}
+use Rattle.insertion.specs.Limits.{accepts, insertAs, edgesPass, registersPass}
+use Rattle.insertion.specs.Ends.{EndState, endOf, EndFits, linkAt, JoinedEnds, JoinedEndsBy, EdgesAdded}
 use Rattle.insertion.specs.RegisterMaps.{registers, mapsOf, pass, Fits, EndsBecome}
-use Rattle.insertion.specs.Arrays.{Arrays, dagOf, StateFits, RecordLinked, Grows, grownState, accepts}
+use Rattle.insertion.specs.Arrays.{GraphState, countsOf, stateWith, graphState, Arrays, dagOf, StateFits, LinkedRecord, RecordLinked, grownCounts, grownState, commutesAs, RecordInserted, Grows}
 
 -- ---- `link_record`
 
@@ -69,13 +66,13 @@ module _ (front : Bool) (x : Linked) (v : ℕ) (r : JoinedEnds) (fn ln : List �
     last-fits = j .last-fits;
   }
 
--- ---- `one_more` and `grown_state`
+-- ---- `one_more` and `grow_counts`
 
 pub one-more-back : (n : ℕ) (front : Bool) → cond (not front) (n + 1) n ≡ cond front n (n + 1)
 one-more-back n true = refl
 one-more-back n false = refl
 
--- ---- `insert_parsed`
+-- ---- `insert_record`
 
 -- a refusal, where the rule refuses so
 pub refused : (i : ℕ) (bytes : List ℕ) (g : CircuitDag) (x : RecordInserted) (a : Arrays) (r : Refusal) → x .answer ≡ Refused r → insertAs nearAll i g bytes .answer ≡ Refused r → Grows i bytes g x a
@@ -126,6 +123,15 @@ pub record Left (b : Bool) (bytes : List ℕ) (s : GraphState) (a : Arrays) (l :
   pub count : c ≡ cond (commutes bytes) (s .commuting + 1) (s .commuting)
   pub list : a′ .commuting ≡ cond (commutes bytes) (set (a .commuting) (s .commuting) (s .nodes)) (a .commuting)
 
+neither : (x y : ℕ) → (ltb 256 x || ltb 256 y) ≡ false → (x ≤ 256) × (y ≤ 256)
+neither x y h =
+    let p = none-of (ltb 256 x) (ltb 256 y) h in
+    (ltb-false 256 x (p .0), ltb-false 256 y (p .1))
+  where
+    none-of : (a b : Bool) → (a || b) ≡ false → (a ≡ false) × (b ≡ false)
+    none-of true b e = let z : _≡_ {A = ℕ} 0 1 = cc in absurd (omega arith)
+    none-of false b e = (refl, e)
+
 no-pass : (x y : ℕ) (b : Bool) → x ≤ 256 → y ≤ 256 → (ltb 256 (cond b x y) || ltb 256 (cond b y x)) ≡ false
 no-pass x y true p q = rw (le-ltb _ _ p, le-ltb _ _ q) refl
 no-pass x y false p q = rw (le-ltb _ _ q, le-ltb _ _ p) refl
@@ -164,15 +170,27 @@ module _ (bytes : List ℕ) (s : GraphState) (a : Arrays) (l : LinkedRecord) (m 
       refl
       refl)
 
-pub grown-state-is : (s : GraphState) (front : Bool) (l : LinkedRecord) (m : EndCounts) (c b f : ℕ) → b ≡ cond (not front) (s .backs + 1) (s .backs) → f ≡ cond front (s .fronts + 1) (s .fronts)
-    → _≡_ {A = GraphState} (record { nodes = s .nodes + 1; edges = l .edges; first = l .first; last = l .last; «first_registers» = m .first; «last_registers» = m .last; commuting = c; backs = b; fronts = f }) (grownState s front l m c)
-grown-state-is s front l m c b f p q =
-    let x = p ∙ one-more-back (s .backs) front in
-    λ j. record { nodes = s .nodes + 1; edges = l .edges; first = l .first; last = l .last; «first_registers» = m .first; «last_registers» = m .last; commuting = c; backs = x j; fronts = q j }
+pub grown-counts-is : (k : GraphCounts) (front : Bool) (edges : ℕ) (m : EndCounts) (c b f : ℕ) → b ≡ cond (not front) (k .backs + 1) (k .backs) → f ≡ cond front (k .fronts + 1) (k .fronts)
+    → countsOf ((k .nodes + 1) ∷ edges ∷ m .first ∷ m .last ∷ c ∷ b ∷ f ∷ []) ≡ grownCounts k front edges m c
+unfolding countsOf
+grown-counts-is k front edges m c b f p q =
+    let x = p ∙ one-more-back (k .backs) front in
+    λ j. record { nodes = k .nodes + 1; edges = edges; «first_registers» = m .first; «last_registers» = m .last; commuting = c; backs = x j; fronts = q j }
 
-pub end-below : (b : Bool) (x y n k : ℕ) → x + y ≡ n → n < 512 → k ≡ cond b y x → k < 512
-end-below true x y n k e l h = omega arith
-end-below false x y n k e l h = omega arith
+pub same-counts : (k k′ : GraphCounts) (first last : EndState) → k ≡ k′ → stateWith k first last ≡ stateWith k′ first last
+same-counts k k′ first last e = ap (λ (q : GraphCounts). stateWith q first last) e
+
+-- the seven numbers that were read are those that are lent
+module _ (k : GraphCounts) (l : List ℕ) (e : k ≡ countsOf l) (first last : List ℕ) (a : Arrays) where
+  pub fits-read : StateFits (graphState (countsOf l) first last) a → StateFits (graphState k first last) a
+  fits-read = subst (λ (q : GraphCounts). StateFits (graphState q first last) a) (sym e)
+
+  pub grows-lent : (i : ℕ) (bytes : List ℕ) (x : RecordInserted) (a′ : Arrays) → Grows i bytes (dagOf (graphState k first last) a) x a′ → Grows i bytes (dagOf (graphState (countsOf l) first last) a) x a′
+  grows-lent i bytes x a′ = subst (λ (q : GraphCounts). Grows i bytes (dagOf (graphState q first last) a) x a′) e
+
+pub end-below : (b : Bool) (x y n : ℕ) → x + y ≡ n → n < 512 → cond b y x < 512
+end-below true x y n e l = omega arith
+end-below false x y n e l = omega arith
 
 cond-ends : (b : Bool) (x y n : ℕ) → x + y ≡ n → cond b x (x + 1) + cond b (y + 1) y ≡ n + 1
 cond-ends true x y n e = omega arith
@@ -202,13 +220,11 @@ module _ (i : ℕ) (bytes : List ℕ) (g : CircuitDag) (keeps : recordRule bytes
       unfolding insertAs
       is-done h = rw (keeps, lt-leb 512 (size g) free, fit, h) refl
 
--- "kinds 1 to 4, and records with both forms None", by what the record involves
-pub joins-commutes : (bytes : List ℕ) (r : Record) → recordRule bytes ≡ true → r ≡ recordOf bytes → (joins : Bool) (f t : ℕ) → joins ≡ (defines (r .kind) || (eqb f 0 && eqb t 0)) → f ≡ formOf (r .qubits) → t ≡ registerFormOf (r .classical) → joins ≡ commutes bytes
-joins-commutes bytes r keeps is joins f t e ef et =
-    e
-    ∙ ap (λ (q : Record). defines (q .kind) || (eqb f 0 && eqb t 0)) is
-    ∙ ap (λ (x : ℕ). defines (Records.kind bytes) || (eqb x 0 && eqb t 0)) (ef ∙ ap (λ (q : Record). formOf (q .qubits)) is ∙ form-kept bytes keeps)
-    ∙ ap (λ (x : ℕ). defines (Records.kind bytes) || (eqb (qubitForm bytes) 0 && eqb x 0)) (et ∙ ap (λ (q : Record). registerFormOf (q .classical)) is ∙ register-kept bytes keeps)
+commutes-as : (bytes : List ℕ) → recordRule bytes ≡ true → (r : Record) → r ≡ recordOf bytes → commutesAs (r .kind) (r .qubits) (r .classical) ≡ commutes bytes
+commutes-as bytes keeps r is =
+    ap (λ (q : Record). commutesAs (q .kind) (q .qubits) (q .classical)) is
+    ∙ ap (λ (x : ℕ). defines (Records.kind bytes) || (eqb x 0 && eqb (registerFormOf (classicalOf bytes)) 0)) (form-kept bytes keeps)
+    ∙ ap (λ (x : ℕ). defines (Records.kind bytes) || (eqb (qubitForm bytes) 0 && eqb x 0)) (register-kept bytes keeps)
 
 module _ (i : ℕ) (bytes : List ℕ) (s : GraphState) (a : Arrays) (r : Record) (keeps : recordRule bytes ≡ true) (is : r ≡ recordOf bytes) where
   abbrev g : CircuitDag
@@ -251,30 +267,31 @@ module _ (i : ℕ) (bytes : List ℕ) (s : GraphState) (a : Arrays) (r : Record)
       many : (b : Bool) → (ltb 256 (m .first) || ltb 256 (m .last)) ≡ b → registersPass g bytes ≡ b
       many b h = rw (registered-at (front bytes) g bytes, ← own-maps .both .passes, counts (front bytes) (registers (m .first) (a′ .firstName) (a′ .firstIndex) (a′ .firstOwner)) (registers (m .last) (a′ .lastName) (a′ .lastIndex) (a′ .lastOwner))) h
 
-      pub many-first : (x : RecordInserted) → 256 < m .first → x .answer ≡ Refused (TooManyRegisters i) → Grows i bytes g x a′
-      many-first x h p = refused i bytes g x a′ _ p (is-many i bytes g keeps free (passes false (le-ltb _ _ room)) (many true (rw (lt-ltb _ _ h) refl)))
+      pub many-pass : (x : RecordInserted) → (ltb 256 (m .first) || ltb 256 (m .last)) ≡ true → x .answer ≡ Refused (TooManyRegisters i) → Grows i bytes g x a′
+      many-pass x h p = refused i bytes g x a′ _ p (is-many i bytes g keeps free (passes false (le-ltb _ _ room)) (many true h))
 
-      pub many-last : (x : RecordInserted) → m .first ≤ 256 → 256 < m .last → x .answer ≡ Refused (TooManyRegisters i) → Grows i bytes g x a′
-      many-last x k h p = refused i bytes g x a′ _ p (is-many i bytes g keeps free (passes false (le-ltb _ _ room)) (many true (rw (le-ltb _ _ k, lt-ltb _ _ h) refl)))
-
-      pub own-left : (f k c : ℕ) (p : ℤ) (joins : Bool) → m .first ≤ 256 → m .last ≤ 256 → f ≡ formOf (r .qubits) → joins ≡ commutes bytes
-          → a′ .kind ≡ set (a .kind) (s .nodes) (r .kind) → a′ .form ≡ set (a .form) (s .nodes) f → a′ .label ≡ set (a .label) (s .nodes) (r .label) → a′ .place ≡ set (a .place) (s .nodes) p
-          → k ≡ cond (r .front) (s .fronts) (s .backs) → p ≡ placeAfter (r .front) k
-          → c ≡ cond joins (s .commuting + 1) (s .commuting) → a′ .commuting ≡ cond joins (set (a .commuting) (s .commuting) (s .nodes)) (a .commuting)
+      pub own-left : (c : ℕ) → (ltb 256 (m .first) || ltb 256 (m .last)) ≡ false
+          → a′ .kind ≡ set (a .kind) (s .nodes) (r .kind) → a′ .form ≡ set (a .form) (s .nodes) (formOf (r .qubits)) → a′ .label ≡ set (a .label) (s .nodes) (r .label)
+          → a′ .place ≡ set (a .place) (s .nodes) (placeAfter (r .front) (cond (r .front) (s .fronts) (s .backs)))
+          → c ≡ cond (commutesAs (r .kind) (r .qubits) (r .classical)) (s .commuting + 1) (s .commuting)
+          → a′ .commuting ≡ cond (commutesAs (r .kind) (r .qubits) (r .classical)) (set (a .commuting) (s .commuting) (s .nodes)) (a .commuting)
           → Left (front bytes) bytes s a l m c a′
-      own-left f k c p joins one two ef ej ka fa la pa ek ep ec el = record {
-        links = own-links;
-        room = room;
-        maps = own-maps;
-        first-room = one;
-        last-room = two;
-        kind = ka ∙ ap (λ (q : Record). set (a .kind) (s .nodes) (q .kind)) is;
-        form = fa ∙ ap (set (a .form) (s .nodes)) (ef ∙ ap (λ (q : Record). formOf (q .qubits)) is ∙ form-kept bytes keeps);
-        label = la ∙ ap (λ (q : Record). set (a .label) (s .nodes) (q .label)) is;
-        place = pa ∙ ap (set (a .place) (s .nodes)) (ep ∙ ap (placeAfter (r .front)) ek ∙ ap (λ (q : Record). placeAfter (q .front) (cond (q .front) (s .fronts) (s .backs))) is);
-        count = ec ∙ ap (λ (j : Bool). cond j (s .commuting + 1) (s .commuting)) ej;
-        list = el ∙ ap (λ (j : Bool). cond j (set (a .commuting) (s .commuting) (s .nodes)) (a .commuting)) ej;
-      }
+      own-left c few ka fa la pa ec el =
+          let ej = commutes-as bytes keeps r is in
+          let both = neither (m .first) (m .last) few in
+          record {
+            links = own-links;
+            room = room;
+            maps = own-maps;
+            first-room = both .0;
+            last-room = both .1;
+            kind = ka ∙ ap (λ (q : Record). set (a .kind) (s .nodes) (q .kind)) is;
+            form = fa ∙ ap (set (a .form) (s .nodes)) (ap (λ (q : Record). formOf (q .qubits)) is ∙ form-kept bytes keeps);
+            label = la ∙ ap (λ (q : Record). set (a .label) (s .nodes) (q .label)) is;
+            place = pa ∙ ap (λ (q : Record). set (a .place) (s .nodes) (placeAfter (q .front) (cond (q .front) (s .fronts) (s .backs)))) is;
+            count = ec ∙ ap (λ (j : Bool). cond j (s .commuting + 1) (s .commuting)) ej;
+            list = el ∙ ap (λ (j : Bool). cond j (set (a .commuting) (s .commuting) (s .nodes)) (a .commuting)) ej;
+          }
 
       module _ (fits : StateFits s a) (c : ℕ) (left : Left (front bytes) bytes s a l m c a′) where
         state-fits : StateFits (grownState s (front bytes) l m c) a′

@@ -1,5 +1,5 @@
 -- A single insertion: a sound graph may be taken apart and lent, and what comes back is the rule's answer. Assumes nothing.
-use mathlib.Core.Path.{_≡_, refl, sym, _∙_, ap}
+use mathlib.Core.Path.{_≡_, refl, sym, _∙_, ap, subst}
 use mathlib.Core.Bool.{Bool, true, false, cond, not}
 use mathlib.Core.List.{List}
 use Prim.Native.Nat.{ℕ, zero, suc, _+_, _≤_, _<_}
@@ -14,7 +14,7 @@ use Rattle.file.specs.Records.{recordRule}
 use Rattle.graph.specs.declared.NodeIndex.{NodeIndex}
 use Rattle.graph.specs.declared.End.{End}
 use Rattle.graph.specs.declared.CircuitDag.{CircuitDag}
-use Rattle.graph.specs.Dag.{absent, node, size}
+use Rattle.graph.specs.Dag.{absent, present, node, size}
 use Rattle.graph.specs.Soundness.{sound}
 use Rattle.graph.proofs.ListLaws.{at-any, at-none}
 use Rattle.graph.proofs.SizeLaws.{EndSized, RegistersSized, DagSized}
@@ -22,13 +22,11 @@ use Rattle.graph.proofs.SoundnessLaws.{Sound, Clauses, NamesFit, sound-told, so
 use Rattle.insertion.specs.declared.Answer.{Answer}
 use Rattle.insertion.specs.declared.Answer.the-variants.{Node, Refused}
 use Rattle.insertion.specs.declared.Inserted.{Inserted}
-use Rattle.insertion.specs.declared.records.GraphState.{GraphState}
-use Rattle.insertion.specs.declared.records.RecordInserted.{RecordInserted}
 use Rattle.insertion.specs.Insertion.{nearAll, grown}
-use Rattle.insertion.specs.Limits.{insertAs, insertOf, refused, edgesPass, registersPass}
-use Rattle.insertion.specs.Ends.{EndFits}
+use Rattle.insertion.specs.Limits.{accepts, insertAs, insertOf, refused, edgesPass, registersPass}
+use Rattle.insertion.specs.Ends.{endState, several, EndFits}
 use Rattle.insertion.specs.RegisterMaps.{Fits, registers}
-use Rattle.insertion.specs.Arrays.{Arrays, arraysOf, stateOf, dagOf, StateFits, Grows, accepts}
+use Rattle.insertion.specs.Arrays.{GraphState, countsOf, stateWith, graphState, Arrays, arraysOf, countsIn, endStateOf, stateOf, dagOf, StateFits, RecordInserted, Grows}
 
 -- ---- `has_node`
 
@@ -52,7 +50,7 @@ rising-few : (f : ℕ → ℕ) (m n : ℕ) → ((i j : ℕ) → i < j → j < m 
 rising-few f zero n up low = omega arith
 rising-few f (suc m) n up low = let h = rising f (suc m) up m (omega arith) in omega (arith, h, low m (omega arith))
 
-end-fits : (g : CircuitDag) (e : End) → EndSized e → NamesFit g e → EndFits (size g) (e .node) (record { all = e .all; top = 64; some = anyOf (λ b. b) (e .block) }) (e .block)
+end-fits : (g : CircuitDag) (e : End) → EndSized e → NamesFit g e → EndFits (size g) (e .node) (endStateOf e) (e .block)
 end-fits g e z f = record {
   nodes = z .node;
   blocks = z .block;
@@ -60,10 +58,19 @@ end-fits g e z f = record {
   all = f .all-below;
   low = omega arith;
   top = λ q l. List·getD-eq-default (e .node) absent (omega (arith, z .node));
-  some = refl;
+  some = some (anyOf (λ b. b) (e .block));
+  only = λ h. absurd (large (anyOf (λ b. b) (e .block)) h);
 }
+  where
+    some : (b : Bool) → present (cond b several absent) ≡ b
+    some true = refl
+    some false = refl
 
-pub sound-fits : (g : CircuitDag) → DagSized g → sound g ≡ true → StateFits (stateOf g) (arraysOf g)
+    large : (b : Bool) → cond b several absent < 512 → ⊥
+    large true h = omega arith
+    large false h = omega arith
+
+sound-fits : (g : CircuitDag) → DagSized g → sound g ≡ true → StateFits (stateOf g) (arraysOf g)
 sound-fits g z h =
     let s = sound-told g (z .commuting .list) h in
     let k = sound-clauses g h in
@@ -79,6 +86,17 @@ sound-fits g z h =
       last-registers = record { room = s .last-count; keys = k .last-keys; sized = record { name = z .last-registers .name; index = z .last-registers .index; node = z .last-registers .node } };
       commuting = rising-few (λ i. getD (g .commuting .list) i 0) (g .commuting .count) (size g) (s .commuting-ascends) (s .commuting-below);
     }
+
+-- the lent numbers are the graph's
+module _ (g : CircuitDag) (n first last : List ℕ) (en : countsOf n ≡ countsIn g) (ef : endState first ≡ endStateOf (g .first)) (el : endState last ≡ endStateOf (g .last)) where
+  lent : graphState (countsOf n) first last ≡ stateOf g
+  lent = λ j. stateWith (en j) (ef j) (el j)
+
+  pub lent-fits : DagSized g → sound g ≡ true → StateFits (graphState (countsOf n) first last) (arraysOf g)
+  lent-fits z h = subst (λ (s : GraphState). StateFits s (arraysOf g)) (sym lent) (sound-fits g z h)
+
+  pub lent-grows : (i : ℕ) (bytes : List ℕ) (r : RecordInserted) (a : Arrays) → Grows i bytes (dagOf (graphState (countsOf n) first last) (arraysOf g)) r a → Grows i bytes g r a
+  lent-grows i bytes r a = subst (λ (s : GraphState). Grows i bytes (dagOf s (arraysOf g)) r a) lent
 
 -- ---- the answer
 

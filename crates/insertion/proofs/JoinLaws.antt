@@ -15,10 +15,8 @@ use Rattle.graph.specs.Dag.{absent, present, orElse, node}
 use Rattle.file.specs.declared.InvolvedQubits.the-variants.{None}
 use Rattle.graph.specs.declared.NodeIndex.{NodeIndex}
 use Rattle.graph.specs.declared.End.{End}
-use Rattle.insertion.specs.declared.links.EndState.{EndState}
-use Rattle.insertion.specs.declared.links.Joined.{Joined}
 use Rattle.insertion.specs.Insertion.{Linked, nearAll, source, qubits, linkQubits, linkSet, linkAll, linkBy}
-use Rattle.insertion.specs.Ends.{endWith, endOf, EndFits, SetLinked, AllLinked, StateGrown, JoinedBy, JoinedEndsBy}
+use Rattle.insertion.specs.Ends.{EndState, several, Only, endWith, endOf, EndFits, SetLinked, AllLinked, StateGrown, nearState, farState, Joined, JoinedBy, JoinedEndsBy}
 use Rattle.insertion.proofs.QubitLaws.{all-first, all-rest, qubits-none, qubits-next, qubits-below}
 use Rattle.insertion.proofs.LinkLaws.{bool-cases, both-ways, both-true, none-first, none-rest, linkOne}
 use Rattle.insertion.proofs.LinkLoops.{Within, or-within, set-within, becomes}
@@ -70,9 +68,28 @@ fits-more n n′ node s block h f = record {
   low = f .low;
   top = f .top;
   some = f .some;
+  only = f .only;
 }
 
 -- ---- blocks
+
+-- the one node of a block is taken out
+clear-one : (n m : ℕ) → set (set (replicate n false) m true) m false ≡ replicate n false
+clear-one zero m = refl
+clear-one (suc n) zero = refl
+clear-one (suc n) (suc m) = ap (λ (l : List Bool). false ∷ l) (clear-one n m)
+
+pub kept-only : (m v : ℕ) (block : List Bool) → Only m block → m < 512 → set (set block m false) v true ≡ set (replicate 512 false) v true
+kept-only m v block only h = rw (only h, clear-one 512 m) refl
+
+-- what is known of a block that a node may have joined
+only-grown : (joins : Bool) (m m′ : ℕ) (block block′ : List Bool) → m′ ≡ cond joins several m → (joins ≡ false → block′ ≡ block) → Only m block → Only m′ block′
+only-grown true m m′ block block′ e s only h = absurd (omega (arith, e, h))
+only-grown false m m′ block block′ e s only h = rw (s refl, e) (only (rw e at h))
+
+some-grown : (joins : Bool) (m : ℕ) → present (cond joins several m) ≡ cond joins true (present m)
+some-grown true m = refl
+some-grown false m = refl
 
 pub any-set : (l : List Bool) (v : ℕ) → v < length l → anyOf (λ b. b) (set l v true) ≡ true
 unfolding anyOf
@@ -147,6 +164,10 @@ empty-qubits : (m : ℕ) → m < 2 ^ 64 → isEmpty (qubits m) ≡ eqb m 0
 empty-qubits zero h = rw (qubits-none 64 0) refl
 empty-qubits (suc m) h = rw (qubits-next (suc m) (omega arith) h) (sym (ne-eqb (suc m) 0 (omega arith)))
 
+none-linked : (m v : ℕ) (x : Linked) → m ≡ 0 → linkQubits nearAll (qubits m) v x ≡ x
+unfolding linkQubits
+none-linked m v x e = rw (e, qubits-none 64 0) refl
+
 -- v joined the two ends as a Set
 module _ (mask v : ℕ) (bits : mask < 2 ^ 64) (small : v < 512) (near far : EndState) (nearNode farNode : List ℕ) (nearBlock farBlock : List Bool)
     (near-fits : EndFits v nearNode near nearBlock) (far-fits : EndFits v farNode far farBlock)
@@ -170,14 +191,17 @@ module _ (mask v : ℕ) (bits : mask < 2 ^ 64) (small : v < 512) (near far : End
         block = near-fits .blocks;
       }))
 
-  near-some : anyOf (λ b. b) nearBlock′ ≡ n .some
+  near-some : present (n .members) ≡ anyOf (λ b. b) nearBlock′
   near-some =
       let b = link-block (qubits mask) v (record { near = endOf nearNode near nearBlock; far = endOf farNode far farBlock; others = [] }) small (near-fits .blocks) in
-      (rw (linked, empty-qubits mask bits) at b) ∙ (rw (near-grown .some, near-fits .some) (turned _ (eqb mask 0)))
+      rw (near-grown .members, some-grown, near-fits .some) (turned _ (eqb mask 0) ∙ sym (rw (linked, empty-qubits mask bits) at b))
     where
-      turned : (a b : Bool) → cond b a true ≡ cond (not b) true a
+      turned : (a b : Bool) → cond (not b) true a ≡ cond b a true
       turned a true = refl
       turned a false = refl
+
+  near-stays : not (eqb mask 0) ≡ false → nearBlock′ ≡ nearBlock
+  near-stays e = ap (λ (x : Linked). x .near .block) (sym linked ∙ none-linked mask v _ (eqb-true mask 0 (not-false _ e)))
 
   pub joined-set : JoinedBy (linkSet nearAll mask v (endOf nearNode near nearBlock) (endOf farNode far farBlock)) (v + 1)
       (record { count = k; near = n; far = f }) nearNode′ farNode′ nearBlock′ farBlock′ others
@@ -197,7 +221,8 @@ module _ (mask v : ℕ) (bits : mask < 2 ^ 64) (small : v < 512) (near far : End
           all = rw (near-grown .all) (fits .all);
           low = near-grown .low;
           top = fits .near .top;
-          some = sym near-some;
+          some = near-some;
+          only = only-grown (not (eqb mask 0)) (near .members) (n .members) nearBlock nearBlock′ (near-grown .members) near-stays (near-fits .only);
         };
         far-fits = record {
           nodes = fits .far .size;
@@ -208,7 +233,8 @@ module _ (mask v : ℕ) (bits : mask < 2 ^ 64) (small : v < 512) (near far : End
           top = fits .far .top;
           some =
               let r : v < length farBlock = omega (arith, far-fits .blocks) in
-              rw (block, join-some (eqb k 0) farBlock v r, ← far-fits .some) (far-grown .some);
+              rw (block, join-some (eqb k 0) farBlock v r, ← far-fits .some, far-grown .members) (some-grown (eqb k 0) (far .members));
+          only = only-grown (eqb k 0) (far .members) (f .members) farBlock farBlock′ (far-grown .members) (λ (e : eqb k 0 ≡ false). rw (block, e) refl) (far-fits .only);
         };
       }
 
@@ -250,20 +276,23 @@ cond-not : {A : Type 0} (b : Bool) (x y : A) → cond (not b) x y ≡ cond b y x
 cond-not true x y = refl
 cond-not false x y = refl
 
-or-self : (b : Bool) → cond b b true ≡ true
-or-self true = refl
-or-self false = refl
+or-not : (b : Bool) → cond b true (not b) ≡ true
+or-not true = refl
+or-not false = refl
+
+or-some : (m : ℕ) → present (orElse m several) ≡ true
+or-some m = ⊎-elim (λ (e : eqb m absent ≡ true). rw e refl) (λ (e : eqb m absent ≡ false). rw (e, e) refl) (bool-cases (eqb m absent))
 
 -- v joined the two ends as All
 module _ (v : NodeIndex) (small : v .0 < 512) (near far : EndState) (nearNode farNode : List ℕ) (nearBlock farBlock : List Bool)
     (near-fits : EndFits (v .0) nearNode near nearBlock) (far-fits : EndFits (v .0) farNode far farBlock)
-    (nearBlock′ farBlock′ : List Bool) (all : NodeIndex) (others : List ℕ)
-    (is-all : all .0 ≡ orElse (far .all .0) (v .0))
-    (near-block : nearBlock′ ≡ set (replicate 512 false) (v .0) true) (far-block : farBlock′ ≡ cond (not (far .some)) (set farBlock (v .0) true) farBlock) where
+    (nearBlock′ farBlock′ : List Bool) (others : List ℕ)
+    (near-block : nearBlock′ ≡ set (replicate 512 false) (v .0) true) (far-block : farBlock′ ≡ cond (eqb (far .members) absent) (set farBlock (v .0) true) farBlock) where
   -- the near end with this map, and the far end
-  near-end : (nearNode′ : List ℕ) (t : ℕ) → t ≤ 64 → MapFits (v .0 + 1) t nearNode′ → EndFits (v .0 + 1) nearNode′ (record { all = v; top = t; some = true }) nearBlock′
+  near-end : (nearNode′ : List ℕ) (t : ℕ) → t ≤ 64 → MapFits (v .0 + 1) t nearNode′ → EndFits (v .0 + 1) nearNode′ (nearState v t) nearBlock′
   near-end nearNode′ t low m =
       let n : length (replicate 512 false) ≡ 512 = length-replicate 512 false in
+      let p : eqb (v .0) absent ≡ false = ne-eqb (v .0) absent (omega arith) in
       record {
         nodes = m .size;
         blocks = rw (near-block, length-set) n;
@@ -271,62 +300,63 @@ module _ (v : NodeIndex) (small : v .0 < 512) (near far : EndState) (nearNode fa
         all = λ p. omega arith;
         low = low;
         top = m .top;
-        some = rw near-block (sym (any-set (replicate 512 false) (v .0) (omega (arith, n))));
+        some = rw (p, near-block) (sym (any-set (replicate 512 false) (v .0) (omega (arith, n))));
+        only = λ h. near-block;
       }
 
-  far-end : (farNode′ : List ℕ) (t : ℕ) → t ≤ 64 → MapFits (v .0 + 1) t farNode′ → EndFits (v .0 + 1) farNode′ (record { all = all; top = t; some = true }) farBlock′
+  far-end : (farNode′ : List ℕ) (t : ℕ) → t ≤ 64 → MapFits (v .0 + 1) t farNode′ → EndFits (v .0 + 1) farNode′ (farState far v t) farBlock′
   far-end farNode′ t low m = record {
     nodes = m .size;
-    blocks = rw (far-block, join-size (not (far .some)) farBlock (v .0)) (far-fits .blocks);
+    blocks = rw (far-block, join-size (eqb (far .members) absent) farBlock (v .0)) (far-fits .blocks);
     entries = m .entries;
-    all = rw is-all (or-within (v .0 + 1) (far .all .0) (v .0) (within-more (v .0) (v .0 + 1) (far .all .0) (omega arith) (far-fits .all)) (λ p. omega arith));
+    all = or-within (v .0 + 1) (far .all .0) (v .0) (within-more (v .0) (v .0 + 1) (far .all .0) (omega arith) (far-fits .all)) (λ p. omega arith);
     low = low;
     top = m .top;
     some =
         let r : v .0 < length farBlock = omega (arith, far-fits .blocks) in
-        rw (far-block, join-some (not (far .some)) farBlock (v .0) r, ← far-fits .some, cond-not) (sym (or-self (far .some)));
+        or-some (far .members) ∙ sym (rw (far-block, join-some (eqb (far .members) absent) farBlock (v .0) r, ← far-fits .some) (or-not (eqb (far .members) absent)));
+    only = only-grown (eqb (far .members) absent) (far .members) (orElse (far .members) several) farBlock farBlock′ (cond-not (eqb (far .members) absent) (far .members) several)
+        (λ (e : eqb (far .members) absent ≡ false). rw (far-block, e) refl) (far-fits .only);
   }
 
   far-is : farBlock′ ≡ cond (anyOf (λ b. b) farBlock) farBlock (set farBlock (v .0) true)
-  far-is = rw (far-block, ← far-fits .some) (cond-not (far .some) (set farBlock (v .0) true) farBlock)
+  far-is = rw (far-block, ← far-fits .some) (sym (cond-not (eqb (far .members) absent) farBlock (set farBlock (v .0) true)))
 
-  all-is : all ≡ node (orElse (far .all .0) (v .0))
-  all-is = ap node is-all
+  module _ (n f : EndState) where
+    -- "If both maps are empty, qubit 0 maps to v in both."
+    pub joined-none : (not (anyOf present nearNode) && not (anyOf present farNode)) ≡ true → (nearNode′ farNode′ : List ℕ)
+        → nearNode′ ≡ set nearNode 0 (v .0) → farNode′ ≡ set farNode 0 (v .0) → length others ≡ 64 → n ≡ nearState v 1 → f ≡ farState far v 1
+        → JoinedBy (linkAll (v .0) (endOf nearNode near nearBlock) (endOf farNode far farBlock)) (v .0 + 1)
+        (record { count = 0; near = n; far = f }) nearNode′ farNode′ nearBlock′ farBlock′ others
+    unfolding linkAll
+    joined-none e nearNode′ farNode′ hn hf size en ef =
+        let b = both-true (not (anyOf present nearNode)) (not (anyOf present farNode)) e in
+        record {
+          near = rw (e, hn, near-block, en) refl;
+          far = rw (e, hf, far-is, ef) refl;
+          joined = rw e refl;
+          few = omega arith;
+          size = size;
+          near-fits = rw en (near-end nearNode′ 1 (omega arith) (rw hn (first-entry (v .0) nearNode (near-fits .nodes) (not-true _ (b .0)))));
+          far-fits = rw ef (far-end farNode′ 1 (omega arith) (rw hf (first-entry (v .0) farNode (far-fits .nodes) (not-true _ (b .1)))));
+        }
 
-  -- "If both maps are empty, qubit 0 maps to v in both."
-  pub joined-none : (not (anyOf present nearNode) && not (anyOf present farNode)) ≡ true → (nearNode′ farNode′ : List ℕ)
-      → nearNode′ ≡ set nearNode 0 (v .0) → farNode′ ≡ set farNode 0 (v .0) → length others ≡ 64
-      → JoinedBy (linkAll (v .0) (endOf nearNode near nearBlock) (endOf farNode far farBlock)) (v .0 + 1)
-      (record { count = 0; near = record { all = v; top = 1; some = true }; far = record { all = all; top = 1; some = true } }) nearNode′ farNode′ nearBlock′ farBlock′ others
-  unfolding linkAll
-  joined-none e nearNode′ farNode′ hn hf size =
-      let b = both-true (not (anyOf present nearNode)) (not (anyOf present farNode)) e in
-      record {
-        near = rw (e, hn, near-block) refl;
-        far = rw (e, hf, all-is, far-is) refl;
-        joined = rw e refl;
-        few = omega arith;
-        size = size;
-        near-fits = near-end nearNode′ 1 (omega arith) (rw hn (first-entry (v .0) nearNode (near-fits .nodes) (not-true _ (b .0))));
-        far-fits = far-end farNode′ 1 (omega arith) (rw hf (first-entry (v .0) farNode (far-fits .nodes) (not-true _ (b .1))));
-      }
-
-  -- "Else every node in the last map points to v and all its qubits map to v."
-  pub joined-all : (not (anyOf present nearNode) && not (anyOf present farNode)) ≡ false → (nearNode′ : List ℕ) (k : ℕ)
-      → AllLinked (v .0) nearNode nearNode′ others k
-      → JoinedBy (linkAll (v .0) (endOf nearNode near nearBlock) (endOf farNode far farBlock)) (v .0 + 1)
-      (record { count = k; near = record { all = v; top = near .top; some = true }; far = record { all = all; top = far .top; some = true } }) nearNode′ farNode nearBlock′ farBlock′ others
-  unfolding linkAll
-  joined-all e nearNode′ k h = record {
-    near = rw (e, h .is, near-block) refl;
-    far = rw (e, all-is, far-is) refl;
-    joined = rw e (h .joined);
-    few = h .few;
-    size = h .size;
-    near-fits = near-end nearNode′ (near .top) (near-fits .low) (rw (h .is) (become-fits (v .0) (near .top) nearNode (end-map (v .0) nearNode near nearBlock near-fits)));
-    far-fits = far-end farNode (far .top) (far-fits .low)
-        (map-more (v .0) (v .0 + 1) (far .top) (far .top) farNode (omega arith) (omega arith) (end-map (v .0) farNode far farBlock far-fits));
-  }
+    -- "Else every node in the last map points to v and all its qubits map to v."
+    pub joined-all : (not (anyOf present nearNode) && not (anyOf present farNode)) ≡ false → (nearNode′ : List ℕ) (k : ℕ)
+        → AllLinked (v .0) nearNode nearNode′ others k → n ≡ nearState v (near .top) → f ≡ farState far v (far .top)
+        → JoinedBy (linkAll (v .0) (endOf nearNode near nearBlock) (endOf farNode far farBlock)) (v .0 + 1)
+        (record { count = k; near = n; far = f }) nearNode′ farNode nearBlock′ farBlock′ others
+    unfolding linkAll
+    joined-all e nearNode′ k h en ef = record {
+      near = rw (e, h .is, near-block, en) refl;
+      far = rw (e, far-is, ef) refl;
+      joined = rw e (h .joined);
+      few = h .few;
+      size = h .size;
+      near-fits = rw en (near-end nearNode′ (near .top) (near-fits .low) (rw (h .is) (become-fits (v .0) (near .top) nearNode (end-map (v .0) nearNode near nearBlock near-fits))));
+      far-fits = rw ef (far-end farNode (far .top) (far-fits .low)
+          (map-more (v .0) (v .0 + 1) (far .top) (far .top) farNode (omega arith) (omega arith) (end-map (v .0) farNode far farBlock far-fits)));
+    }
 
 -- ---- none, and the mirror
 
@@ -373,7 +403,7 @@ module _ (x : Linked) (n : ℕ) (r : Joined) (firstNode lastNode : List ℕ) (fi
 
 -- ---- the empty graph's ends
 
-pub fits-none : EndFits 0 (replicate 64 absent) (record { all = node absent; top = 0; some = false }) (replicate 512 false)
+pub fits-none : EndFits 0 (replicate 64 absent) (record { all = node absent; top = 0; members = absent }) (replicate 512 false)
 unfolding anyOf
 fits-none = record {
   nodes = length-replicate 64 absent;
@@ -383,6 +413,7 @@ fits-none = record {
   low = omega arith;
   top = λ q r. absents 64 q;
   some = sym (falses 512);
+  only = λ h. absurd (omega arith);
 }
   where
     absents : (n q : ℕ) → getD (replicate n absent) q absent ≡ absent

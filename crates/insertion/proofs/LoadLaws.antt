@@ -20,12 +20,10 @@ use Rattle.graph.specs.Dag.{absent, noEnd, noRegisters, empty}
 use Rattle.insertion.specs.declared.Answer.the-variants.{Node, Refused}
 use Rattle.insertion.specs.declared.Outcome.the-variants.{Done}
 use Rattle.insertion.specs.declared.Loaded.{Loaded}
-use Rattle.insertion.specs.declared.records.GraphState.{GraphState}
-use Rattle.insertion.specs.declared.records.RecordInserted.{RecordInserted}
 use Rattle.insertion.specs.Insertion.{nearAll}
-use Rattle.insertion.specs.Limits.{insertAs}
+use Rattle.insertion.specs.Limits.{accepts, insertAs}
 use Rattle.insertion.specs.Load.{notLoaded, insertRecords, load}
-use Rattle.insertion.specs.Arrays.{Arrays, arrays, dagOf, emptyState, StateFits, InOrder, Grows, accepts}
+use Rattle.insertion.specs.Arrays.{GraphState, countsOf, graphState, Arrays, arrays, dagOf, emptyState, StateFits, InOrder, RecordInserted, Grows}
 use Rattle.graph.proofs.ListLaws.{length-countFrom}
 use Rattle.insertion.proofs.JoinLaws.{fits-none as ends-fit-none}
 use Rattle.insertion.proofs.RegisterLaws.{fits-none as maps-fit-none}
@@ -56,8 +54,8 @@ fits-empty = record {
   commuting = omega arith;
 }
 
-pub begin : (file order : List ℕ) (n : ℕ) → InOrder file order n → Loading file order n emptyState none 0
-unfolding empty noEnd noRegisters
+pub begin : (file order : List ℕ) (n : ℕ) → InOrder file order n → Loading file order n (graphState (countsOf (replicate 7 0)) (absent ∷ 0 ∷ absent ∷ []) (absent ∷ 0 ∷ absent ∷ [])) none 0
+unfolding empty noEnd noRegisters countsOf
 begin file order n o = record { low = omega arith; ordered = o; fits = fits-empty; same = refl }
 
 module _ (file order : List ℕ) (n : ℕ) (s : GraphState) (a : Arrays) (k : ℕ) (l : Loading file order n s a k) (h : k < n) (i : ℕ) (is : i ≡ getD order k 0) where

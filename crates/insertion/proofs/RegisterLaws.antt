@@ -67,6 +67,12 @@ pub at-back : (front : Bool) (k : InvolvedClassical) (s : List ℕ) (v : ℕ) (f
     → BothBecome k s v last first last′ first′ → EndsBecome front k s v first last first′ last′
 at-back front k s v first last first′ last′ e b = record { both = rw e b }
 
+-- a record without registers leaves both maps
+pub ends-nothing : (front : Bool) (k : InvolvedClassical) (s : List ℕ) (v : ℕ) (first last : Registers) → k ≡ None → Fits first → Fits last
+    → EndsBecome front k s v first last first last
+ends-nothing true k s v first last e f g = at-front true k s v first last first last refl (join-as s v first last first last k None e (join-none s v first last f g))
+ends-nothing false k s v first last e f g = at-back false k s v first last first last refl (join-as s v last first last first k None e (join-none s v last first g f))
+
 -- ---- laws of the rule, for callers
 
 all-cons : (p : Entry → Bool) (x : Entry) (l : List Entry) → p x ≡ true → allOf p l ≡ true → allOf p (x ∷ l) ≡ true

@@ -1,27 +1,28 @@
 -- A graph as an insertion and a load hold it: plain arrays beside a few numbers, and what the functions on them leave.
 -- Assumes nothing.
 use mathlib.Core.Path.{_≡_}
-use mathlib.Core.Bool.{Bool, true, false, cond}
+use mathlib.Core.Bool.{Bool, true, false, cond, _&&_, _||_}
 use mathlib.Core.List.{List, map}
 use Prim.Native.Nat.{ℕ, _+_, _≤_, _<_}
+use lib.Dec.{eqb}
 use lib.IntN.{ℤ}
 use lib.ListN.{length, getD}
 use Rattle.file.specs.Lists.{anyOf}
 use Rattle.file.specs.Pairs.{countOf, checkFile}
 use Rattle.file.specs.declared.FileCheck.the-variants.{Sound}
+use Rattle.file.specs.declared.InvolvedQubits.{InvolvedQubits}
+use Rattle.file.specs.declared.InvolvedClassical.{InvolvedClassical}
+use Rattle.file.specs.Records.{defines, formOf, registerFormOf}
 use Rattle.graph.specs.declared.Edges.{Edges}
+use Rattle.graph.specs.declared.End.{End}
 use Rattle.graph.specs.declared.CircuitDag.{CircuitDag}
 use Rattle.graph.specs.Dag.{absent, node}
-use Rattle.insertion.specs.declared.links.EndState.{EndState}
 use Rattle.insertion.specs.declared.Answer.{Answer}
-use Rattle.insertion.specs.declared.Answer.the-variants.{Node, Refused}
-use Rattle.insertion.specs.declared.records.GraphState.{GraphState}
-use Rattle.insertion.specs.declared.records.LinkedRecord.{LinkedRecord}
-use Rattle.insertion.specs.declared.records.RecordInserted.{RecordInserted}
+use Rattle.insertion.specs.declared.records.GraphCounts.{GraphCounts}
 use Rattle.insertion.specs.declared.registers.EndCounts.{EndCounts}
 use Rattle.insertion.specs.Insertion.{Linked, nearAll, link, withEdges}
-use Rattle.insertion.specs.Limits.{insertAs}
-use Rattle.insertion.specs.Ends.{endOf, EndFits}
+use Rattle.insertion.specs.Limits.{accepts, insertAs}
+use Rattle.insertion.specs.Ends.{EndState, endState, several, endOf, EndFits}
 use Rattle.insertion.specs.RegisterMaps.{registers, Fits}
 
 -- the arrays of a graph
@@ -66,6 +67,48 @@ arrays k f l p a b fn ln fb lb n1 i1 o1 n2 i2 o2 c = record {
   commuting = c;
 }
 
+-- the numbers of a graph beside its arrays
+pub record GraphState : Type 0 where
+  pub nodes : ℕ
+  pub edges : ℕ
+  pub first : EndState
+  pub last : EndState
+  pub «first_registers» : ℕ
+  pub «last_registers» : ℕ
+  pub commuting : ℕ
+  pub backs : ℕ
+  pub fronts : ℕ
+
+-- the seven that are not of an end, as they are lent
+unfoldable pub countsOf : List ℕ → GraphCounts
+countsOf l = record {
+  nodes = getD l 0 0;
+  edges = getD l 1 0;
+  «first_registers» = getD l 2 0;
+  «last_registers» = getD l 3 0;
+  commuting = getD l 4 0;
+  backs = getD l 5 0;
+  fronts = getD l 6 0;
+}
+
+-- all of them, by those seven and the ends' ..
+abbrev pub stateWith : GraphCounts → EndState → EndState → GraphState
+stateWith k first last = record {
+  nodes = k .nodes;
+  edges = k .edges;
+  first = first;
+  last = last;
+  «first_registers» = k .«first_registers»;
+  «last_registers» = k .«last_registers»;
+  commuting = k .commuting;
+  backs = k .backs;
+  fronts = k .fronts;
+}
+
+-- .. and with the ends' numbers as they are lent
+abbrev pub graphState : GraphCounts → List ℕ → List ℕ → GraphState
+graphState k first last = stateWith k (endState first) (endState last)
+
 -- the graph that the numbers and arrays hold
 abbrev pub dagOf : GraphState → Arrays → CircuitDag
 dagOf s a = record {
@@ -84,13 +127,11 @@ dagOf s a = record {
 abbrev pub arraysOf : CircuitDag → Arrays
 arraysOf g = arrays (g .nodes .kind) (g .nodes .form) (g .nodes .label) (g .nodes .place) (g .edges .from) (g .edges .to) (g .first .node) (g .last .node) (g .first .block) (g .last .block) (g .«first_registers» .name) (g .«first_registers» .index) (g .«first_registers» .node) (g .«last_registers» .name) (g .«last_registers» .index) (g .«last_registers» .node) (g .commuting .list)
 
--- .. and its numbers
-abbrev pub stateOf : CircuitDag → GraphState
-stateOf g = record {
+-- .. the seven numbers
+abbrev pub countsIn : CircuitDag → GraphCounts
+countsIn g = record {
   nodes = g .nodes .count;
   edges = g .edges .count;
-  first = record { all = g .first .all; top = 64; some = anyOf (λ b. b) (g .first .block) };
-  last = record { all = g .last .all; top = 64; some = anyOf (λ b. b) (g .last .block) };
   «first_registers» = g .«first_registers» .count;
   «last_registers» = g .«last_registers» .count;
   commuting = g .commuting .count;
@@ -98,9 +139,17 @@ stateOf g = record {
   fronts = g .fronts;
 }
 
+-- .. the numbers of an end: nothing is mapped from 64 on, and of the block it is said only whether it has a node
+abbrev pub endStateOf : End → EndState
+endStateOf e = record { all = e .all; top = 64; members = cond (anyOf (λ b. b) (e .block)) several absent }
+
+-- .. and all its numbers
+abbrev pub stateOf : CircuitDag → GraphState
+stateOf g = stateWith (countsIn g) (endStateOf (g .first)) (endStateOf (g .last))
+
 -- the numbers of the empty graph
 abbrev pub emptyState : GraphState
-emptyState = let none : EndState = record { all = node absent; top = 0; some = false } in record {
+emptyState = let none : EndState = record { all = node absent; top = 0; members = absent } in record {
   nodes = 0;
   edges = 0;
   first = none;
@@ -132,6 +181,12 @@ pub record InOrder (file order : List ℕ) (n : ℕ) : Type 0 where
   pub few : n ≤ 512
   pub there : (k : ℕ) → k < n → getD order k 0 < countOf file
 
+-- what linking a record leaves beside the arrays
+pub record LinkedRecord : Type 0 where
+  pub edges : ℕ
+  pub first : EndState
+  pub last : EndState
+
 -- the ends and edges after node v joined them by the rule's x; where the edges would pass 2,048 only their count is said
 pub record RecordLinked (front : Bool) (v : ℕ) (x : Linked) (edges : Edges) (r : LinkedRecord) (from to firstNode lastNode : List ℕ) (firstBlock lastBlock : List Bool) : Type 0 where
   pub count : r .edges ≡ edges .count + length (x .others)
@@ -143,7 +198,19 @@ pub record RecordLinked (front : Bool) (v : ℕ) (x : Linked) (edges : Edges) (r
   pub first-fits : EndFits (v + 1) firstNode (r .first) firstBlock
   pub last-fits : EndFits (v + 1) lastNode (r .last) lastBlock
 
--- the numbers after a record became the next node
+-- the seven numbers after a record became the next node
+abbrev pub grownCounts : GraphCounts → Bool → ℕ → EndCounts → ℕ → GraphCounts
+grownCounts k front edges m c = record {
+  nodes = k .nodes + 1;
+  edges = edges;
+  «first_registers» = m .first;
+  «last_registers» = m .last;
+  commuting = c;
+  backs = cond front (k .backs) (k .backs + 1);
+  fronts = cond front (k .fronts + 1) (k .fronts);
+}
+
+-- .. and all
 abbrev pub grownState : GraphState → Bool → LinkedRecord → EndCounts → ℕ → GraphState
 grownState s front l m c = record {
   nodes = s .nodes + 1;
@@ -157,10 +224,14 @@ grownState s front l m c = record {
   fronts = cond front (s .fronts + 1) (s .fronts);
 }
 
--- the answer accepts
-abbrev pub accepts : Answer → Bool
-accepts (Node v) = true
-accepts (Refused r) = false
+-- "kinds 1 to 4, and records with both forms None", by what the record involves
+abbrev pub commutesAs : ℕ → InvolvedQubits → InvolvedClassical → Bool
+commutesAs kind qubits classical = defines kind || (eqb (formOf qubits) 0 && eqb (registerFormOf classical) 0)
+
+-- the answer, with the numbers of the graph where it accepts
+pub record RecordInserted : Type 0 where
+  pub answer : Answer
+  pub state : GraphState
 
 -- an insertion on the graph g of record i, with these bytes: the rule's answer and, where it accepts, the rule's graph in the arrays
 pub record Grows (i : ℕ) (bytes : List ℕ) (g : CircuitDag) (r : RecordInserted) (a : Arrays) : Type 0 where

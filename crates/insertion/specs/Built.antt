@@ -16,10 +16,9 @@ use Rattle.insertion.specs.declared.Answer.the-variants.{Refused}
 use Rattle.insertion.specs.declared.Inserted.{Inserted}
 use Rattle.insertion.specs.declared.Outcome.the-variants.{Done}
 use Rattle.insertion.specs.Insertion.{nearAll}
-use Rattle.insertion.specs.Limits.{insertAs, insertOf}
+use Rattle.insertion.specs.Limits.{accepts, insertAs, insertOf}
 use Rattle.insertion.specs.Load.{notLoaded, load}
 use Rattle.insertion.specs.Calls.{final}
-use Rattle.insertion.specs.Arrays.{accepts}
 
 -- of the graph after the insertions of l: it is sound, an insertion on it goes by the rules from refusal 4 on, and none is
 -- refused 11

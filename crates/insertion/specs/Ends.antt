@@ -1,20 +1,44 @@
 -- One end of the graph as an insertion holds it: plain arrays beside a few numbers. What the functions of module links
 -- leave in them, by the rules of Insertion. Assumes nothing.
 use mathlib.Core.Path.{_≡_}
-use mathlib.Core.Bool.{Bool, true, cond}
+use mathlib.Core.Bool.{Bool, true, false, cond}
 use mathlib.Core.List.{List, [], map}
 use Prim.Native.Nat.{ℕ, _+_, _≤_, _<_}
-use lib.ListN.{length, getD, take}
+use lib.ListN.{length, getD, set, take, replicate}
 use Rattle.file.specs.Lists.{anyOf, add}
 use Rattle.file.specs.declared.InvolvedQubits.{InvolvedQubits}
 use Rattle.graph.specs.declared.NodeIndex.{NodeIndex}
+use Rattle.graph.specs.declared.Qubit.{Qubit}
 use Rattle.graph.specs.declared.Edges.{Edges}
 use Rattle.graph.specs.declared.End.{End}
-use Rattle.graph.specs.Dag.{absent, present}
-use Rattle.insertion.specs.declared.links.EndState.{EndState}
-use Rattle.insertion.specs.declared.links.Joined.{Joined}
-use Rattle.insertion.specs.declared.links.JoinedEnds.{JoinedEnds}
+use Rattle.graph.specs.Dag.{absent, present, orElse, node}
 use Rattle.insertion.specs.Insertion.{Linked, nearAll, qubits, linkQubits, mapped, linkBy, link, withEdges}
+
+-- a map's entry of a qubit
+abbrev pub entryAt : List ℕ → Qubit → ℕ
+entryAt map q = getD map (q .0) absent
+
+-- .. and the map with that entry a node: "the checker has to catch one handed over as the other"
+abbrev pub withEntry : List ℕ → Qubit → NodeIndex → List ℕ
+withEntry map q v = set map (q .0) (v .0)
+
+-- the numbers of one end beside its arrays: the all-qubit node, a bound from which on no qubit is mapped, and what is known of the block:
+-- `absent` where it has no node, a node that it has alone, `several` where it has nodes
+pub record EndState : Type 0 where
+  pub all : NodeIndex
+  pub top : ℕ
+  pub members : ℕ
+
+-- .. as they are lent
+abbrev pub endState : List ℕ → EndState
+endState l = record { all = node (getD l 0 0); top = getD l 1 0; members = getD l 2 0 }
+
+abbrev pub several : ℕ
+several = 65534
+
+-- a node that is the known members is all that the block has
+abbrev pub Only : ℕ → List Bool → Type 0
+Only members block = members < 512 → block ≡ set (replicate 512 false) members true
 
 -- the end with this map, all-qubit node and block
 abbrev pub endWith : List ℕ → NodeIndex → List Bool → End
@@ -32,7 +56,8 @@ pub record EndFits (n : ℕ) (node : List ℕ) (s : EndState) (block : List Bool
   pub all : present (s .all .0) ≡ true → s .all .0 < n
   pub low : s .top ≤ 64
   pub top : (q : ℕ) → s .top ≤ q → getD node q absent ≡ absent
-  pub some : s .some ≡ anyOf (λ b. b) block
+  pub some : present (s .members) ≡ anyOf (λ b. b) block
+  pub only : Only (s .members) block
 
 -- the first r of the others after the node s, which may be absent, came to the first k
 pub record OtherAdded (s k : ℕ) (before after : List ℕ) (r : ℕ) : Type 0 where
@@ -61,7 +86,27 @@ pub record StateGrown (s : EndState) (t : ℕ) (joins : Bool) (r : EndState) : T
   pub old : s .top ≤ r .top
   pub new : t ≤ r .top
   pub low : r .top ≤ 64
-  pub some : r .some ≡ cond joins true (s .some)
+  pub members : r .members ≡ cond joins several (s .members)
+
+-- the numbers of the near end after All, with the bound t: lastAll becomes v, and the last block {v}
+abbrev pub nearState : NodeIndex → ℕ → EndState
+nearState v t = record { all = v; top = t; members = v .0 }
+
+-- .. of the far end: "firstAll becomes v if absent", and the first block has a node
+abbrev pub farState : EndState → NodeIndex → ℕ → EndState
+farState s v t = record { all = node (orElse (s .all .0) (v .0)); top = t; members = orElse (s .members) several }
+
+-- what joining an end leaves beside the arrays: how many nodes v is joined with, and the ends' numbers
+pub record Joined : Type 0 where
+  pub count : ℕ
+  pub near : EndState
+  pub far : EndState
+
+-- the same, seen from the graph's two ends
+pub record JoinedEnds : Type 0 where
+  pub count : ℕ
+  pub first : EndState
+  pub last : EndState
 
 -- near and far after the new node joined them: the ends and others of the rule's x, on a graph of n nodes
 pub record JoinedBy (x : Linked) (n : ℕ) (r : Joined) (nearNode farNode : List ℕ) (nearBlock farBlock : List Bool) (others : List ℕ) : Type 0 where

@@ -1,5 +1,5 @@
 -- An insertion with its refusals: "Order: 11, .. then per record 4 to 7". Assumes nothing.
-use mathlib.Core.Bool.{Bool, cond, not, _||_}
+use mathlib.Core.Bool.{Bool, true, false, cond, not, _||_}
 use mathlib.Core.List.{List}
 use Prim.Native.Nat.{ℕ, _+_}
 use lib.Dec.{ltb, leb}
@@ -8,11 +8,17 @@ use Rattle.file.specs.Records.{front, recordRule}
 use Rattle.file.specs.declared.Refusal.{Refusal}
 use Rattle.file.specs.declared.Refusal.the-variants.{BadRecord, TooManyNodes, TooManyEdges, TooManyRegisters, Unsound}
 use Rattle.graph.specs.declared.CircuitDag.{CircuitDag}
+use Rattle.insertion.specs.declared.Answer.{Answer}
 use Rattle.insertion.specs.declared.Answer.the-variants.{Node, Refused}
 use Rattle.insertion.specs.declared.Inserted.{Inserted}
 use Rattle.graph.specs.Dag.{node, size}
 use Rattle.insertion.specs.Insertion.{FarRule, nearAll, facing, linked, registered, grown}
 use Rattle.graph.specs.Soundness.{sound}
+
+-- an answer that accepts
+abbrev pub accepts : Answer → Bool
+accepts (Node v) = true
+accepts (Refused r) = false
 
 -- "left as it was: graph"
 abbrev pub refused : Refusal → CircuitDag → Inserted

@@ -6,15 +6,15 @@ ghost use Rattle.file.specs.Lists.{anyOf};
 ghost use Rattle.graph.specs.Soundness.{sound};
 ghost use Rattle.insertion.specs.Insertion.{nearAll};
 ghost use Rattle.insertion.specs.Limits.{insertAs, insertOf};
-ghost use Rattle.insertion.specs.Arrays.{stateOf};
+ghost use Rattle.insertion.specs.Ends.{endState};
+ghost use Rattle.insertion.specs.Arrays.{countsOf, countsIn, endStateOf};
 use crate::Answer;
 use crate::Inserted;
-use crate::links::EndState;
-use crate::records::GraphState;
 use crate::records::dag_of;
 use crate::records::insert_record;
 use file::Refusal;
 use graph::CircuitDag;
+use graph::End;
 
 // Whether the block has a node.
 fn has_node(block: &[bool; 512]) -> bool
@@ -31,35 +31,31 @@ fn has_node(block: &[bool; 512]) -> bool
     false
 }
 
-// The numbers of a graph beside its arrays. Nothing is mapped from 64 on.
-fn state_of(g: CircuitDag) -> GraphState
-    ensures { λ r. ⌜ r ≡ stateOf g ⌝ }
+// The numbers of an end of a graph. Nothing is mapped from 64 on, and of the block it is said only whether it has a node.
+fn end_numbers(e: End) -> [u16; 3]
+    ensures { λ r. ⌜ endState r ≡ endStateOf e ⌝ }
 {
-    let first = g.first;
-    let last = g.last;
-    let first_all = first.all;
-    let last_all = last.all;
-    let first_block = first.block;
-    let last_block = last.block;
-    GraphState {
-        nodes: g.nodes.count,
-        edges: g.edges.count,
-        first: EndState {
-            all: first_all,
-            top: 64,
-            some: has_node(&first_block),
-        },
-        last: EndState {
-            all: last_all,
-            top: 64,
-            some: has_node(&last_block),
-        },
-        first_registers: g.first_registers.count,
-        last_registers: g.last_registers.count,
-        commuting: g.commuting.count,
-        backs: g.backs,
-        fronts: g.fronts,
+    let all = e.all;
+    let block = e.block;
+    if has_node(&block) {
+        return [all.0, 64, 65534];
     }
+    [all.0, 64, 65535]
+}
+
+// The seven numbers of a graph.
+fn graph_numbers(g: CircuitDag) -> [usize; 7]
+    ensures { λ r. ⌜ countsOf r ≡ countsIn g ⌝ }
+{
+    [
+        g.nodes.count,
+        g.edges.count,
+        g.first_registers.count,
+        g.last_registers.count,
+        g.commuting.count,
+        g.backs,
+        g.fronts,
+    ]
 }
 
 // The record on a sound graph; a refusal returns the graph that came in.
@@ -67,37 +63,35 @@ fn insert_sound(g: CircuitDag, part: &[u8]) -> Inserted
     requires { ⌜ sound g ≡ true ⌝ }
     ensures { λ r. ⌜ r ≡ insertAs nearAll 0 g (now (part .entry)) ⌝ }
 {
-    let nodes = g.nodes;
-    let edges = g.edges;
-    let first = g.first;
-    let last = g.last;
-    let first_registers = g.first_registers;
-    let last_registers = g.last_registers;
-    let list = g.commuting;
-    let mut kind = nodes.kind;
-    let mut form = nodes.form;
-    let mut label = nodes.label;
-    let mut place = nodes.place;
-    let mut from = edges.from;
-    let mut to = edges.to;
-    let mut first_node = first.node;
-    let mut last_node = last.node;
-    let mut first_block = first.block;
-    let mut last_block = last.block;
-    let mut first_name = first_registers.name;
-    let mut first_index = first_registers.index;
-    let mut first_owner = first_registers.node;
+    let mut numbers = graph_numbers(g);
+    let mut first_numbers = end_numbers(g.first);
+    let mut last_numbers = end_numbers(g.last);
+    let mut kind = g.nodes.kind;
+    let mut form = g.nodes.form;
+    let mut label = g.nodes.label;
+    let mut place = g.nodes.place;
+    let mut from = g.edges.from;
+    let mut to = g.edges.to;
+    let mut first_node = g.first.node;
+    let mut last_node = g.last.node;
+    let mut first_block = g.first.block;
+    let mut last_block = g.last.block;
+    let mut first_name = g.first_registers.name;
+    let mut first_index = g.first_registers.index;
+    let mut first_owner = g.first_registers.node;
     let mut first_hints = [0u16; 2048];
-    let mut last_name = last_registers.name;
-    let mut last_index = last_registers.index;
-    let mut last_owner = last_registers.node;
+    let mut last_name = g.last_registers.name;
+    let mut last_index = g.last_registers.index;
+    let mut last_owner = g.last_registers.node;
     let mut last_hints = [0u16; 2048];
-    let mut commuting = list.list;
+    let mut commuting = g.commuting.list;
     let mut others = [0u16; 64];
-    let r = insert_record(
+    let answer = insert_record(
         0,
         part,
-        state_of(g),
+        &mut numbers,
+        &mut first_numbers,
+        &mut last_numbers,
         &mut kind,
         &mut form,
         &mut label,
@@ -119,18 +113,18 @@ fn insert_sound(g: CircuitDag, part: &[u8]) -> Inserted
         &mut commuting,
         &mut others,
     );
-    let answer = r.answer;
     if let Answer::Refused(x) = answer {
         return Inserted {
             answer: Answer::Refused(x),
             graph: g,
         };
     }
-    let s = r.state;
     Inserted {
         answer,
         graph: dag_of(
-            s,
+            numbers,
+            first_numbers,
+            last_numbers,
             kind,
             form,
             label,

@@ -9,38 +9,25 @@ ghost use lib.Count.{trailingZeros};
 ghost use Rattle.file.specs.Lists.{member, anyOf};
 ghost use Rattle.graph.specs.Dag.{Edge, absent, present, orElse};
 ghost use Rattle.insertion.specs.Insertion.{nearAll, qubits, linkSet, linkAll, linkBy, link};
-ghost use Rattle.insertion.specs.Ends.{endOf, EndFits, OtherAdded, SetLinked, AllLinked, StateGrown, JoinedBy, linkAt, JoinedEndsBy, EdgesAdded};
+ghost use Rattle.insertion.specs.Ends.{entryAt, withEntry, endState, endOf, EndFits, Only, OtherAdded, SetLinked, AllLinked, StateGrown, nearState, farState, JoinedBy, linkAt, JoinedEndsBy, EdgesAdded};
 use file::InvolvedQubits;
 use graph::NodeIndex;
 use graph::Qubit;
 
-// The numbers of one end beside its arrays: the all-qubit node, a bound above which no qubit is mapped, and whether the
-// block has a node.
-pub(crate) struct EndState {
-    pub top: usize,
-    pub all: NodeIndex,
-    pub some: bool,
-}
+// The three numbers of one end beside its arrays are lent as an array, so that no struct is copied for each record: the all-qubit node, ..
+pub(crate) const ALL: usize = 0;
 
-// What joining an end leaves beside the arrays: how many nodes v is joined with, and the ends' numbers.
-pub(crate) struct Joined {
-    pub count: usize,
-    pub near: EndState,
-    pub far: EndState,
-}
+// .. a bound from which on no qubit is mapped, ..
+const TOP: usize = 1;
 
-// The same, seen from the graph's two ends.
-pub(crate) struct JoinedEnds {
-    pub count: usize,
-    pub first: EndState,
-    pub last: EndState,
-}
+// .. and what is known of the block: 65535 where it has no node, a node that it has alone, 65534 where it has nodes.
+const MEMBERS: usize = 2;
 
 // The entry of qubit q in the map from qubit to node. Every read and write of such a map goes by a Qubit, so that a node
 // number handed over as a qubit is a type error.
 pub(crate) fn node_at(map: &[u16; 64], q: Qubit) -> NodeIndex
     requires { ⌜ (q .0 < 64) × (length (now map) ≡ 64) ⌝ }
-    ensures { λ r. ⌜ r .0 ≡ getD (now (map .entry)) (q .0) absent ⌝ }
+    ensures { λ r. ⌜ r .0 ≡ entryAt (now (map .entry)) q ⌝ }
 {
     let i = q.0 as usize;
     NodeIndex(map[i])
@@ -49,7 +36,7 @@ pub(crate) fn node_at(map: &[u16; 64], q: Qubit) -> NodeIndex
 // The entry of qubit q becomes v.
 pub(crate) fn set_node(map: &mut [u16; 64], q: Qubit, v: NodeIndex)
     requires { ⌜ q .0 < 64 ⌝ }
-    ensures { λ r. ⌜ now (map .exit) ≡ set (now (map .entry)) (q .0) (v .0) ⌝ }
+    ensures { λ r. ⌜ now (map .exit) ≡ withEntry (now (map .entry)) q v ⌝ }
 {
     let i = q.0 as usize;
     map[i] = v.0;
@@ -145,12 +132,18 @@ fn join_block(block: &mut [bool; 512], v: NodeIndex, joins: bool)
     }
 }
 
-// The block becomes {v}.
-fn keep_only(block: &mut [bool; 512], v: NodeIndex)
-    requires { ⌜ v .0 < 512 ⌝ }
+// The block becomes {v}. Where one node is known to be all that it has, that one is taken out, else the whole is cleared.
+fn keep_only(block: &mut [bool; 512], members: u16, v: NodeIndex)
+    requires { ⌜ (v .0 < 512) × Only members (now block) ⌝ }
     ensures { λ r. ⌜ now (block .exit) ≡ set (replicate 512 false) (v .0) true ⌝ }
 {
     let w = v.0 as usize;
+    if members < 512 {
+        let one = members as usize;
+        block[one] = false;
+        block[w] = true;
+        return;
+    }
     *block = [false; 512];
     block[w] = true;
 }
@@ -202,13 +195,13 @@ fn link_set(
 }
 
 // Every node in near's map is joined with v, and its qubits map to v; none is mapped from top on. Returns how many there are.
-fn link_all(near_node: &mut [u16; 64], others: &mut [u16; 64], v: NodeIndex, top: usize) -> usize
+fn link_all(near_node: &mut [u16; 64], others: &mut [u16; 64], v: NodeIndex, top: u16) -> usize
     requires { ⌜ (top ≤ 64) × (length (now «near_node») ≡ 64) × (length (now others) ≡ 64) ⌝ }
     requires { ⌜ ((q : ℕ) → top ≤ q → getD (now «near_node») q absent ≡ absent) ⌝ }
     ensures { λ r. ⌜ AllLinked (v .0) (now («near_node» .entry)) (now («near_node» .exit)) (now (others .exit)) r ⌝ }
 {
     let mut k: usize = 0;
-    let mut i: usize = 0;
+    let mut i: u16 = 0;
     while i < top {
         let q = Qubit(i as u8);
         let old = node_at(&*near_node, q);
@@ -220,12 +213,12 @@ fn link_all(near_node: &mut [u16; 64], others: &mut [u16; 64], v: NodeIndex, top
 }
 
 // Whether the map is empty; no qubit is mapped from top on.
-fn no_qubit(map: &[u16; 64], top: usize) -> bool
+fn no_qubit(map: &[u16; 64], top: u16) -> bool
     requires { ⌜ (top ≤ 64) × (length (now map) ≡ 64) ⌝ }
     requires { ⌜ ((q : ℕ) → top ≤ q → getD (now map) q absent ≡ absent) ⌝ }
     ensures { λ r. ⌜ r ≡ not (anyOf present (now (map .entry))) ⌝ }
 {
-    let mut i: usize = 0;
+    let mut i: u16 = 0;
     while i < top {
         let u = node_at(map, Qubit(i as u8));
         if u.0 != 65535 {
@@ -237,7 +230,7 @@ fn no_qubit(map: &[u16; 64], top: usize) -> bool
 }
 
 // Whether both maps are empty.
-fn no_qubits(near_node: &[u16; 64], near_top: usize, far_node: &[u16; 64], far_top: usize) -> bool
+fn no_qubits(near_node: &[u16; 64], near_top: u16, far_node: &[u16; 64], far_top: u16) -> bool
     requires { ⌜ («near_top» ≤ 64) × (length (now «near_node») ≡ 64) × ((q : ℕ) → «near_top» ≤ q → getD (now «near_node») q absent ≡ absent) ⌝ }
     requires { ⌜ («far_top» ≤ 64) × (length (now «far_node») ≡ 64) × ((q : ℕ) → «far_top» ≤ q → getD (now «far_node») q absent ≡ absent) ⌝ }
     ensures { λ r. ⌜ r ≡ (not (anyOf present (now («near_node» .entry))) && not (anyOf present (now («far_node» .entry)))) ⌝ }
@@ -249,14 +242,14 @@ fn no_qubits(near_node: &[u16; 64], near_top: usize, far_node: &[u16; 64], far_t
 }
 
 // A bound above every qubit of the mask.
-fn mask_top(mask: u64) -> usize
+fn mask_top(mask: u64) -> u16
     ensures { λ r. ⌜ (mask < 2 ^ r) × (r ≤ 64) ⌝ }
 {
-    64 - (u64::leading_zeros(mask) as usize)
+    64 - (u64::leading_zeros(mask) as u16)
 }
 
 // The larger of two bounds.
-fn larger(a: usize, b: usize) -> usize
+fn larger(a: u16, b: u16) -> u16
     requires { ⌜ (a ≤ 64) × (b ≤ 64) ⌝ }
     ensures { λ r. ⌜ (a ≤ r) × (b ≤ r) × (r ≤ 64) ⌝ }
 {
@@ -264,123 +257,111 @@ fn larger(a: usize, b: usize) -> usize
 }
 
 // The numbers of an end whose map got entries below t, and whose block got a node where it joins.
-fn grow_state(s: EndState, t: usize, joins: bool) -> EndState
-    requires { ⌜ (s .top ≤ 64) × (t ≤ 64) ⌝ }
-    ensures { λ r. ⌜ StateGrown s t joins r ⌝ }
+fn grow_end(numbers: &mut [u16; 3], t: u16, joins: bool)
+    requires { ⌜ (endState (now numbers) .top ≤ 64) × (t ≤ 64) ⌝ }
+    ensures { λ r. ⌜ StateGrown (endState (now (numbers .entry))) t joins (endState (now (numbers .exit))) ⌝ }
 {
-    let all = s.all;
-    let top = larger(s.top, t);
+    let all = numbers[ALL];
+    let top = larger(numbers[TOP], t);
     if joins {
-        return EndState {
-            all,
-            top,
-            some: true,
-        };
+        *numbers = [all, top, 65534];
+        return;
     }
-    let some = s.some;
-    EndState { all, top, some }
+    let members = numbers[MEMBERS];
+    *numbers = [all, top, members];
 }
 
 // v joins both ends as a Set.
 fn join_set(
     mask: u64,
     v: NodeIndex,
-    near: EndState,
-    far: EndState,
+    near: &mut [u16; 3],
+    far: &mut [u16; 3],
     near_node: &mut [u16; 64],
     far_node: &mut [u16; 64],
     near_block: &mut [bool; 512],
     far_block: &mut [bool; 512],
     others: &mut [u16; 64],
-) -> Joined
-    requires { ⌜ (v .0 < 512) × (length (now others) ≡ 64) × (EndFits (v .0) (now «near_node») near (now «near_block»)) × (EndFits (v .0) (now «far_node») far (now «far_block»)) ⌝ }
-    ensures { λ r. ⌜ JoinedBy (linkSet nearAll mask (v .0) (endOf (now («near_node» .entry)) near (now («near_block» .entry))) (endOf (now («far_node» .entry)) far (now («far_block» .entry)))) (v .0 + 1) r (now («near_node» .exit)) (now («far_node» .exit)) (now («near_block» .exit)) (now («far_block» .exit)) (now (others .exit)) ⌝ }
+) -> usize
+    requires { ⌜ (v .0 < 512) × (length (now others) ≡ 64) × (EndFits (v .0) (now «near_node») (endState (now near)) (now «near_block»)) × (EndFits (v .0) (now «far_node») (endState (now far)) (now «far_block»)) ⌝ }
+    ensures { λ r. ⌜ JoinedBy (linkSet nearAll mask (v .0) (endOf (now («near_node» .entry)) (endState (now (near .entry))) (now («near_block» .entry))) (endOf (now («far_node» .entry)) (endState (now (far .entry))) (now («far_block» .entry)))) (v .0 + 1) (record { count = r; near = endState (now (near .exit)); far = endState (now (far .exit)) }) (now («near_node» .exit)) (now («far_node» .exit)) (now («near_block» .exit)) (now («far_block» .exit)) (now (others .exit)) ⌝ }
 {
-    let k = link_set(near_node, far_node, near_block, others, near.all, v, mask);
+    let all = NodeIndex(near[ALL]);
+    let k = link_set(near_node, far_node, near_block, others, all, v, mask);
     let t = mask_top(mask);
     join_block(far_block, v, k == 0);
-    let n = grow_state(near, t, mask != 0);
-    let f = grow_state(far, t, k == 0);
-    Joined {
-        count: k,
-        near: n,
-        far: f,
+    grow_end(near, t, mask != 0);
+    grow_end(far, t, k == 0);
+    k
+}
+
+// The near end's numbers after All, with this bound.
+fn all_near(near: &mut [u16; 3], v: NodeIndex, top: u16)
+    ensures { λ r. ⌜ endState (now (near .exit)) ≡ nearState v top ⌝ }
+{
+    *near = [v.0, top, v.0];
+}
+
+// The far end's: v where no all-qubit node was, and a block with a node.
+fn all_far(far: &mut [u16; 3], v: NodeIndex, top: u16)
+    ensures { λ r. ⌜ endState (now (far .exit)) ≡ farState (endState (now (far .entry))) v top ⌝ }
+{
+    let all = or_else(NodeIndex(far[ALL]), v);
+    let members = far[MEMBERS];
+    if members == 65535 {
+        *far = [all.0, top, 65534];
+        return;
     }
+    *far = [all.0, top, members];
 }
 
 // v joins both ends as All.
 fn join_all(
     v: NodeIndex,
-    near: EndState,
-    far: EndState,
+    near: &mut [u16; 3],
+    far: &mut [u16; 3],
     near_node: &mut [u16; 64],
     far_node: &mut [u16; 64],
     near_block: &mut [bool; 512],
     far_block: &mut [bool; 512],
     others: &mut [u16; 64],
-) -> Joined
-    requires { ⌜ (v .0 < 512) × (length (now others) ≡ 64) × (EndFits (v .0) (now «near_node») near (now «near_block»)) × (EndFits (v .0) (now «far_node») far (now «far_block»)) ⌝ }
-    ensures { λ r. ⌜ JoinedBy (linkAll (v .0) (endOf (now («near_node» .entry)) near (now («near_block» .entry))) (endOf (now («far_node» .entry)) far (now («far_block» .entry)))) (v .0 + 1) r (now («near_node» .exit)) (now («far_node» .exit)) (now («near_block» .exit)) (now («far_block» .exit)) (now (others .exit)) ⌝ }
+) -> usize
+    requires { ⌜ (v .0 < 512) × (length (now others) ≡ 64) × (EndFits (v .0) (now «near_node») (endState (now near)) (now «near_block»)) × (EndFits (v .0) (now «far_node») (endState (now far)) (now «far_block»)) ⌝ }
+    ensures { λ r. ⌜ JoinedBy (linkAll (v .0) (endOf (now («near_node» .entry)) (endState (now (near .entry))) (now («near_block» .entry))) (endOf (now («far_node» .entry)) (endState (now (far .entry))) (now («far_block» .entry)))) (v .0 + 1) (record { count = r; near = endState (now (near .exit)); far = endState (now (far .exit)) }) (now («near_node» .exit)) (now («far_node» .exit)) (now («near_block» .exit)) (now («far_block» .exit)) (now (others .exit)) ⌝ }
 {
-    let all = or_else(far.all, v);
-    let near_top = near.top;
-    let far_top = far.top;
-    keep_only(near_block, v);
-    join_block(far_block, v, !far.some);
+    let near_top = near[TOP];
+    let far_top = far[TOP];
+    keep_only(near_block, near[MEMBERS], v);
+    join_block(far_block, v, far[MEMBERS] == 65535);
     if no_qubits(&*near_node, near_top, &*far_node, far_top) {
         set_node(near_node, Qubit(0), v);
         set_node(far_node, Qubit(0), v);
-        return Joined {
-            count: 0,
-            near: EndState {
-                all: v,
-                top: 1,
-                some: true,
-            },
-            far: EndState {
-                all,
-                top: 1,
-                some: true,
-            },
-        };
+        all_near(near, v, 1);
+        all_far(far, v, 1);
+        return 0;
     }
-    let k = link_all(near_node, others, v, near_top);
-    Joined {
-        count: k,
-        near: EndState {
-            all: v,
-            top: near_top,
-            some: true,
-        },
-        far: EndState {
-            all,
-            top: far_top,
-            some: true,
-        },
-    }
+    all_near(near, v, near_top);
+    all_far(far, v, far_top);
+    link_all(near_node, others, v, near_top)
 }
 
-// v joins both ends by the qubits that it involves.
+// v joins both ends by the qubits that it involves: how many nodes it is joined with.
 pub(crate) fn join_end(
     qubits: InvolvedQubits,
     v: NodeIndex,
-    near: EndState,
-    far: EndState,
+    near: &mut [u16; 3],
+    far: &mut [u16; 3],
     near_node: &mut [u16; 64],
     far_node: &mut [u16; 64],
     near_block: &mut [bool; 512],
     far_block: &mut [bool; 512],
     others: &mut [u16; 64],
-) -> Joined
-    requires { ⌜ (v .0 < 512) × (length (now others) ≡ 64) × (EndFits (v .0) (now «near_node») near (now «near_block»)) × (EndFits (v .0) (now «far_node») far (now «far_block»)) ⌝ }
-    ensures { λ r. ⌜ JoinedBy (linkBy qubits nearAll (v .0) (endOf (now («near_node» .entry)) near (now («near_block» .entry))) (endOf (now («far_node» .entry)) far (now («far_block» .entry)))) (v .0 + 1) r (now («near_node» .exit)) (now («far_node» .exit)) (now («near_block» .exit)) (now («far_block» .exit)) (now (others .exit)) ⌝ }
+) -> usize
+    requires { ⌜ (v .0 < 512) × (length (now others) ≡ 64) × (EndFits (v .0) (now «near_node») (endState (now near)) (now «near_block»)) × (EndFits (v .0) (now «far_node») (endState (now far)) (now «far_block»)) ⌝ }
+    ensures { λ r. ⌜ JoinedBy (linkBy qubits nearAll (v .0) (endOf (now («near_node» .entry)) (endState (now (near .entry))) (now («near_block» .entry))) (endOf (now («far_node» .entry)) (endState (now (far .entry))) (now («far_block» .entry)))) (v .0 + 1) (record { count = r; near = endState (now (near .exit)); far = endState (now (far .exit)) }) (now («near_node» .exit)) (now («far_node» .exit)) (now («near_block» .exit)) (now («far_block» .exit)) (now (others .exit)) ⌝ }
 {
     match qubits {
-        InvolvedQubits::None => Joined {
-            count: 0,
-            near,
-            far,
-        },
+        InvolvedQubits::None => 0,
         InvolvedQubits::All => join_all(
             v,
             near,
@@ -410,19 +391,19 @@ pub(crate) fn join_record(
     front: bool,
     qubits: InvolvedQubits,
     v: NodeIndex,
-    first: EndState,
-    last: EndState,
+    first: &mut [u16; 3],
+    last: &mut [u16; 3],
     first_node: &mut [u16; 64],
     last_node: &mut [u16; 64],
     first_block: &mut [bool; 512],
     last_block: &mut [bool; 512],
     others: &mut [u16; 64],
-) -> JoinedEnds
-    requires { ⌜ (v .0 < 512) × (length (now others) ≡ 64) × (EndFits (v .0) (now «first_node») first (now «first_block»)) × (EndFits (v .0) (now «last_node») last (now «last_block»)) ⌝ }
-    ensures { λ r. ⌜ JoinedEndsBy front (linkAt front qubits (v .0) (endOf (now («first_node» .entry)) first (now («first_block» .entry))) (endOf (now («last_node» .entry)) last (now («last_block» .entry)))) (v .0 + 1) r (now («first_node» .exit)) (now («last_node» .exit)) (now («first_block» .exit)) (now («last_block» .exit)) (now (others .exit)) ⌝ }
+) -> usize
+    requires { ⌜ (v .0 < 512) × (length (now others) ≡ 64) × (EndFits (v .0) (now «first_node») (endState (now first)) (now «first_block»)) × (EndFits (v .0) (now «last_node») (endState (now last)) (now «last_block»)) ⌝ }
+    ensures { λ r. ⌜ JoinedEndsBy front (linkAt front qubits (v .0) (endOf (now («first_node» .entry)) (endState (now (first .entry))) (now («first_block» .entry))) (endOf (now («last_node» .entry)) (endState (now (last .entry))) (now («last_block» .entry)))) (v .0 + 1) (record { count = r; first = endState (now (first .exit)); last = endState (now (last .exit)) }) (now («first_node» .exit)) (now («last_node» .exit)) (now («first_block» .exit)) (now («last_block» .exit)) (now (others .exit)) ⌝ }
 {
     if front {
-        let j = join_end(
+        return join_end(
             qubits,
             v,
             first,
@@ -433,15 +414,8 @@ pub(crate) fn join_record(
             last_block,
             others,
         );
-        let a = j.near;
-        let b = j.far;
-        return JoinedEnds {
-            count: j.count,
-            first: a,
-            last: b,
-        };
     }
-    let j = join_end(
+    join_end(
         qubits,
         v,
         last,
@@ -451,14 +425,7 @@ pub(crate) fn join_record(
         last_block,
         first_block,
         others,
-    );
-    let a = j.far;
-    let b = j.near;
-    JoinedEnds {
-        count: j.count,
-        first: a,
-        last: b,
-    }
+    )
 }
 
 // Edge number `at` joins u and v: into v at the back, out of v at the front.

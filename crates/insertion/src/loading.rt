@@ -8,18 +8,15 @@ ghost use Rattle.file.specs.Lists.{upTo};
 ghost use Rattle.graph.specs.Dag.{empty};
 ghost use Rattle.insertion.specs.Load.{notLoaded, insertRecords};
 ghost use Rattle.insertion.specs.Load.{load as loadOf};
-ghost use Rattle.insertion.specs.Arrays.{emptyState, InOrder};
+ghost use Rattle.insertion.specs.Arrays.{InOrder};
 use crate::Answer;
 use crate::Loaded;
 use crate::Outcome;
-use crate::links::EndState;
-use crate::records::GraphState;
 use crate::records::dag_of;
 use crate::records::insert_record;
 use file::FileCheck;
 use file::Refusal;
 use graph::CircuitDag;
-use graph::NodeIndex;
 
 // A refused load gives the empty graph.
 pub(crate) fn not_loaded(r: Refusal) -> Loaded
@@ -28,34 +25,6 @@ pub(crate) fn not_loaded(r: Refusal) -> Loaded
     Loaded {
         answer: Outcome::Refused(r),
         graph: CircuitDag::new(),
-    }
-}
-
-// The numbers of an end that names no node.
-fn empty_end() -> EndState
-    ensures { λ r. ⌜ r ≡ emptyState .first ⌝ }
-{
-    EndState {
-        all: NodeIndex(65535),
-        top: 0,
-        some: false,
-    }
-}
-
-// The numbers of the empty graph.
-fn empty_state() -> GraphState
-    ensures { λ r. ⌜ r ≡ emptyState ⌝ }
-{
-    GraphState {
-        nodes: 0,
-        edges: 0,
-        first: empty_end(),
-        last: empty_end(),
-        first_registers: 0,
-        last_registers: 0,
-        commuting: 0,
-        backs: 0,
-        fronts: 0,
     }
 }
 
@@ -84,6 +53,9 @@ pub(crate) fn insert_in_order(file: &[u8], order: &[u16; 512], n: usize) -> Load
     requires { ⌜ InOrder (now file) (now order) n ⌝ }
     ensures { λ r. ⌜ r ≡ insertRecords (now (file .entry)) empty (take n (now (order .entry))) ⌝ }
 {
+    let mut numbers = [0usize; 7];
+    let mut first = [65535u16, 0, 65535];
+    let mut last = [65535u16, 0, 65535];
     let mut kind = [0u8; 512];
     let mut form = [0u8; 512];
     let mut label = [0u16; 512];
@@ -104,16 +76,17 @@ pub(crate) fn insert_in_order(file: &[u8], order: &[u16; 512], n: usize) -> Load
     let mut last_hints = [0u16; 2048];
     let mut commuting = [0u16; 512];
     let mut others = [0u16; 64];
-    let mut s = empty_state();
     let mut k: usize = 0;
     while k < n {
         let i = widened(order[k]);
         let start = file::pair_offset(file, i);
         let part = &file[start..start + file::pair_length(file, i)];
-        let r = insert_record(
+        let answer = insert_record(
             i,
             part,
-            s,
+            &mut numbers,
+            &mut first,
+            &mut last,
             &mut kind,
             &mut form,
             &mut label,
@@ -135,17 +108,17 @@ pub(crate) fn insert_in_order(file: &[u8], order: &[u16; 512], n: usize) -> Load
             &mut commuting,
             &mut others,
         );
-        let answer = r.answer;
         if let Answer::Refused(x) = answer {
             return not_loaded(x);
         }
-        s = r.state;
         k += 1;
     }
     Loaded {
         answer: Outcome::Done,
         graph: dag_of(
-            s,
+            numbers,
+            first,
+            last,
             kind,
             form,
             label,

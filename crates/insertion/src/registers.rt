@@ -385,6 +385,13 @@ pub(crate) fn register_record(
         (registers (r .first) (now («first_name» .exit)) (now («first_index» .exit)) (now («first_node» .exit)))
         (registers (r .last) (now («last_name» .exit)) (now («last_index» .exit)) (now («last_node» .exit))) ⌝ }
 {
+    // Most records have no register: they take no call.
+    if let InvolvedClassical::None = classical {
+        return EndCounts {
+            first: first_count,
+            last: last_count,
+        };
+    }
     if front {
         let n = join_registers(
             part,

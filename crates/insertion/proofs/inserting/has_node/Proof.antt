@@ -1,7 +1,7 @@
 -- `insertion::inserting::has_node` meets its contract. Assumes nothing.
 use Rattle.insertion.proofs.InsertLaws.{found-node, no-node, one-further}
-use mathlib.Core.Path.{_≡_, refl, sym, _∙_}
-use mathlib.Core.Bool.{Bool, true, false}
+use mathlib.Core.Path.{_≡_}
+use mathlib.Core.Bool.{false}
 use Prim.Native.Nat.{ℕ, _-_, _≤_, _<_}
 use lib.ListN.{getD}
 use native.Mathlib.Omega.{arith}

@@ -1,5 +1,5 @@
 -- `insertion::inserting::insert` meets its contract. Assumes nothing.
-use mathlib.Core.Path.{_≡_, refl, sym, _∙_, ap}
+use mathlib.Core.Path.{sym, _∙_}
 use Rattle.insertion.proofs.InsertLaws.{sound-inserts, unsound-refuses}
 use borrow.Author.Needs.{needs}
 use Rattle.insertion.proofs.inserting.insert.Statement.{statement}

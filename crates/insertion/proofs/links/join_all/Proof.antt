@@ -5,14 +5,23 @@ use borrow.Author.Needs.{needs}
 use Rattle.insertion.proofs.links.join_all.Statement.{statement}
 use Rattle.insertion.proofs.links.join_all.Tie as tie
 
-or-else-requires : tie.Need-or-else-requires
-or-else-requires c κs = search needs
+element-copy-out-near-top : tie.Need-element-copy-out-near-top
+element-copy-out-near-top c = search needs
+
+element-copy-out-far-top : tie.Need-element-copy-out-far-top
+element-copy-out-far-top c = search needs
+
+element-copy-out-keep-only : tie.Need-element-copy-out-keep-only
+element-copy-out-keep-only c = search needs
 
 keep-only-requires : tie.Need-keep-only-requires
-keep-only-requires c κs = search needs
+keep-only-requires c κs = let p = c .before .before .before .before .pre in (p .0, p .2 .only)
+
+element-copy-out-join-block : tie.Need-element-copy-out-join-block
+element-copy-out-join-block c = search needs
 
 join-block-requires : tie.Need-join-block-requires
-join-block-requires c κs = search needs
+join-block-requires c κs = c .before .before .before .before .before .before .before .pre .0
 
 no-qubits-requires : tie.Need-no-qubits-requires
 no-qubits-requires c κs = search needs
@@ -23,31 +32,50 @@ set-node-requires c κs = search needs
 set-node-requires-2 : tie.Need-set-node-requires-2
 set-node-requires-2 c κs = search needs
 
+all-near-requires : tie.Need-all-near-requires
+all-near-requires c κs = search needs
+
+all-far-requires : tie.Need-all-far-requires
+all-far-requires c κs = search needs
+
 returns : tie.Need-returns
 returns c =
-    let s = c .before .before .before .before .before .before .before .before .before .before .before .before .before .before in
-    joined-none _ (s .pre .0) _ _ _ _ _ _ (s .pre .2) (s .pre .3) _ _ _ _ (c .before .before .before .before .before .before .before .before .before .before .before .before .before .or-else .ensures) (c .before .before .before .before .before .before .before .before .before .before .before .keep-only .ensures) (c .before .before .before .before .before .before .before .before .join-block .ensures)
-    (sym (c .before .before .before .before .before .no-qubits .ensures) ∙ c .before .before .before .before .if1 .taken) _ _ (c .before .before .set-node .ensures) (c .set-node2 .ensures) (s .pre .1)
+    let p = c .before .before .before .before .before .before .before .before .before .before .before .before .before .before .before .before .before .before .before .before .pre in
+    joined-none _ (p .0) _ _ _ _ _ _ (p .2) (p .3) _ _ _ (c .before .before .before .before .before .before .before .before .before .before .before .before .before .before .before .keep-only .ensures) (c .before .before .before .before .before .before .before .before .before .before .before .before .join-block .ensures) _ _
+    (sym (c .before .before .before .before .before .before .before .before .before .no-qubits .ensures) ∙ c .before .before .before .before .before .before .before .before .if1 .taken) _ _ (c .before .before .before .before .before .before .set-node .ensures) (c .before .before .before .before .set-node2 .ensures) (p .1) (c .before .before .all-near .ensures) (c .all-far .ensures)
+
+all-near-requires-2 : tie.Need-all-near-requires-2
+all-near-requires-2 c κs = search needs
+
+all-far-requires-2 : tie.Need-all-far-requires-2
+all-far-requires-2 c κs = search needs
 
 link-all-requires : tie.Need-link-all-requires
-link-all-requires c κs = search needs
+link-all-requires c κs = let p = c .before .before .before .before .before .before .before .before .before .before .before .before .before .before .before .before .before .before .pre in ((p .2 .low, p .2 .nodes, p .1), p .2 .top)
 
 returns-2 : tie.Need-returns-2
 returns-2 c =
-    let s = c .before .before .before .before .before .before .before .before .before .before .before .before .before in
-    joined-all _ (s .pre .0) _ _ _ _ _ _ (s .pre .2) (s .pre .3) _ _ _ _ (c .before .before .before .before .before .before .before .before .before .before .before .before .or-else .ensures) (c .before .before .before .before .before .before .before .before .before .before .keep-only .ensures) (c .before .before .before .before .before .before .before .join-block .ensures)
-    (sym (c .before .before .before .before .no-qubits .ensures) ∙ c .before .before .before .if1 .left) _ _ (c .link-all .ensures)
+    let p = c .before .before .before .before .before .before .before .before .before .before .before .before .before .before .before .before .before .before .before .pre in
+    joined-all _ (p .0) _ _ _ _ _ _ (p .2) (p .3) _ _ _ (c .before .before .before .before .before .before .before .before .before .before .before .before .before .before .keep-only .ensures) (c .before .before .before .before .before .before .before .before .before .before .before .join-block .ensures) _ _
+    (sym (c .before .before .before .before .before .before .before .before .no-qubits .ensures) ∙ c .before .before .before .before .before .before .before .if1 .left) _ _ (c .link-all .ensures) (c .before .before .before .before .before .all-near2 .ensures) (c .before .before .before .all-far2 .ensures)
 
 pub join-all-spec : {M : Type 1} → statement M
 join-all-spec =
     tie.close
     (tie.spec
-    or-else-requires
+    element-copy-out-near-top
+    element-copy-out-far-top
+    element-copy-out-keep-only
     keep-only-requires
+    element-copy-out-join-block
     join-block-requires
     no-qubits-requires
     set-node-requires
     set-node-requires-2
+    all-near-requires
+    all-far-requires
     returns
+    all-near-requires-2
+    all-far-requires-2
     link-all-requires
     returns-2)

@@ -1,6 +1,6 @@
 -- `insertion::loading::load` meets its contract. Assumes nothing.
 use Rattle.insertion.proofs.LoadLaws.{bad-file, all-in-order, whole}
-use mathlib.Core.Path.{_≡_, refl, sym, _∙_, ap}
+use mathlib.Core.Path.{sym, _∙_}
 use borrow.Author.Needs.{needs}
 use Rattle.insertion.proofs.loading.load.Statement.{statement}
 use Rattle.insertion.proofs.loading.load.Tie as tie

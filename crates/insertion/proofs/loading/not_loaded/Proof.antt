@@ -1,5 +1,5 @@
 -- `insertion::loading::not_loaded` meets its contract. Assumes nothing.
-use mathlib.Core.Path.{_≡_, refl, sym, _∙_, ap}
+use mathlib.Core.Path.{refl}
 use borrow.Author.Needs.{needs}
 use Rattle.insertion.proofs.loading.not_loaded.Statement.{statement}
 use Rattle.insertion.proofs.loading.not_loaded.Tie as tie

@@ -1,11 +1,10 @@
 -- `insertion::nodes::is_commuting` meets its contract. Assumes nothing.
 use borrow.Author.Tests.{eq-eqb, ne-eqb, le-leb, lt-leb}
 use native.Mathlib.Omega.{arith}
-use mathlib.Core.Bool.{Bool, false}
+use mathlib.Core.Bool.{false}
 use mathlib.Core.Logic.{⊎-elim}
 use Rattle.file.specs.Records.{defines}
 use mathlib.Core.Path.{_≡_, refl}
-use borrow.Author.Needs.{needs}
 use Rattle.insertion.proofs.nodes.is_commuting.Statement.{statement}
 use Rattle.insertion.proofs.nodes.is_commuting.Tie as tie
 use Rattle.insertion.proofs.nodes.is_commuting.Reads as reads

@@ -1,5 +1,5 @@
 -- `insertion::records::one_more` meets its contract. Assumes nothing.
-use mathlib.Core.Path.{_≡_, refl, sym, _∙_, ap}
+use mathlib.Core.Path.{refl}
 use borrow.Author.Needs.{needs}
 use Rattle.insertion.proofs.records.one_more.Statement.{statement}
 use Rattle.insertion.proofs.records.one_more.Tie as tie

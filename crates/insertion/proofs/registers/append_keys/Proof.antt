@@ -1,7 +1,6 @@
 -- `insertion::registers::append_keys` meets its contract. The invariant: putting the keys from j on into the map as it is gives what the whole definition gives, and the marks still tell. Assumes nothing.
 use mathlib.Core.Path.{refl}
 use Prim.Native.Nat.{_-_, _≤_}
-use native.Mathlib.Omega.{arith}
 use Rattle.insertion.specs.RegisterMaps.{registers}
 use Rattle.insertion.proofs.RegisterDefinitions.{Appending, append-begin, append-known, append-over, append-new, append-done, marked, unmarked}
 use borrow.Author.Needs.{needs}

@@ -5,28 +5,28 @@ use Rattle.insertion.proofs.registers.join_registers.Statement.{stateme
 use Rattle.insertion.proofs.registers.join_registers.Tie as tie
 
 enum-told : tie.Need-enum-told
-enum-told c = search needs
+enum-told c = c .match .keys1
 
 enum-known-classical : tie.Need-enum-known-classical
-enum-known-classical c = search needs
+enum-known-classical c = c .match .keys2
 
 keep-name-requires : tie.Need-keep-name-requires
 keep-name-requires c κs = search needs
 
 enum-known-classical-2 : tie.Need-enum-known-classical-2
-enum-known-classical-2 c = search needs
+enum-known-classical-2 c = c .match .keys3
 
 keep-name-requires-2 : tie.Need-keep-name-requires-2
 keep-name-requires-2 c κs = search needs
 
 enum-known-classical-3 : tie.Need-enum-known-classical-3
-enum-known-classical-3 c = search needs
+enum-known-classical-3 c = c .match .keys4
 
 set-keys-requires : tie.Need-set-keys-requires
 set-keys-requires c κs = search needs
 
 enum-known-classical-4 : tie.Need-enum-known-classical-4
-enum-known-classical-4 c = search needs
+enum-known-classical-4 c = c .match .keys5
 
 define-keys-requires : tie.Need-define-keys-requires
 define-keys-requires c κs = search needs

@@ -1,0 +1,44 @@
+-- `insertion::records::counts_of` meets its contract. Assumes nothing.
+use mathlib.Core.Path.{refl}
+use Rattle.insertion.specs.Arrays.{countsOf}
+use borrow.Author.Needs.{needs}
+use Rattle.insertion.proofs.records.counts_of.Statement.{statement}
+use Rattle.insertion.proofs.records.counts_of.Tie as tie
+
+element-copy-out-t4 : tie.Need-element-copy-out-t4
+element-copy-out-t4 c = search needs
+
+element-copy-out-t7 : tie.Need-element-copy-out-t7
+element-copy-out-t7 c = search needs
+
+element-copy-out-t10 : tie.Need-element-copy-out-t10
+element-copy-out-t10 c = search needs
+
+element-copy-out-t13 : tie.Need-element-copy-out-t13
+element-copy-out-t13 c = search needs
+
+element-copy-out-t16 : tie.Need-element-copy-out-t16
+element-copy-out-t16 c = search needs
+
+element-copy-out-t19 : tie.Need-element-copy-out-t19
+element-copy-out-t19 c = search needs
+
+element-copy-out-t22 : tie.Need-element-copy-out-t22
+element-copy-out-t22 c = search needs
+
+returns : tie.Need-returns
+unfolding countsOf
+returns c = refl
+
+pub counts-of-spec : {M : Type 1} → statement M
+counts-of-spec =
+    tie.close
+    (tie.spec
+    element-copy-out-t4
+    element-copy-out-t7
+    element-copy-out-t10
+    element-copy-out-t13
+    element-copy-out-t16
+    element-copy-out-t19
+    element-copy-out-t22
+    returns)
