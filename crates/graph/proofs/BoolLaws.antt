@@ -38,6 +38,10 @@ and-r false b h = cc
 pub and-intro : (a b : Bool) → a ≡ true → b ≡ true → (a && b) ≡ true
 and-intro a b p q = rw (p, q)
 
+pub and-cases : (a b : Bool) → (a && b) ≡ false → (a ≡ false) ⊎ (b ≡ false)
+and-cases true b h = inr h
+and-cases false b h = inl refl
+
 pub or-cases : (a b : Bool) → (a || b) ≡ true → (a ≡ true) ⊎ (b ≡ true)
 or-cases true b h = inl refl
 or-cases false b h = inr h
@@ -48,6 +52,14 @@ or-inl a b p = rw p
 pub or-inr : (a b : Bool) → b ≡ true → (a || b) ≡ true
 or-inr true b p = refl
 or-inr false b p = p
+
+pub or-l : (a b : Bool) → (a || b) ≡ false → a ≡ false
+or-l true b h = h
+or-l false b h = refl
+
+pub or-r : (a b : Bool) → (a || b) ≡ false → b ≡ false
+or-r true b h = cc
+or-r false b h = h
 
 pub not-flip : (b : Bool) → not b ≡ true → b ≡ false
 not-flip true h = sym h

@@ -19,7 +19,7 @@ use Rattle.graph.specs.declared.Edges.{Edges}
 use Rattle.graph.specs.declared.Registers.{Registers}
 use Rattle.graph.specs.Dag.{Edge, Entry, edgeAt, entryAt, entry, sameEdge, sameKey}
 use Rattle.graph.specs.Soundness.{ifPresent, samePlace, ascends, keysDistinct}
-use Rattle.graph.proofs.BoolLaws.{clash-bool, not-true, not-false, bool-ext, and-l, and-r, and-intro, or-cases, not-flip, split-lt}
+use Rattle.graph.proofs.BoolLaws.{clash-bool, not-true, not-false, bool-ext, and-l, and-r, and-intro, and-cases, or-cases, or-l, or-r, not-flip, flip-not, split-lt}
 use Rattle.graph.proofs.BitLaws.{markAt, MarkedBits, bits-more, no-bits}
 use Rattle.graph.proofs.ListLaws.{at-all, all-at, all-here, all-fails, upTo-all, all-upTo, upTo-distinct, distinct-upTo, upTo-any, any-upTo, upTo-none, members-all, all-members}
 use Rattle.graph.proofs.PlaceLaws.{place-read}
@@ -331,62 +331,68 @@ module _ {node : List ℕ} {n : ℕ} {op : List Bool} {q : ℕ} (I : Names node 
 
 -- ---- blocks
 
-pub record BlockPassed (block : List Bool) (n v : ℕ) : Type 0 where
+pub record BlockPassed (block : List Bool) (n : ℕ) (above : Bool) (v : ℕ) : Type 0 where
   pub fit : n ≤ 512
   pub start : n ≤ v
   pub low : v ≤ 512
   pub long : length block ≡ 512
-  pub clear : (u : ℕ) → n ≤ u → u < v → getD block u false ≡ false
+  pub clear : above ≡ false → (u : ℕ) → n ≤ u → u < v → getD block u false ≡ false
+  pub found : above ≡ true → (u : ℕ) × (n ≤ u) × (getD block u false ≡ true)
 
 pub mark-low : (l : List Bool) (u : ℕ) → getD l u false ≡ true → u < length l
 mark-low l u h = elim (decLt u (length l)) [ yes k ↦ k | no k ↦ absurd (clash-bool h (List·getD-eq-default l false {n = u} (omega arith))) ]
 
-module _ {block : List Bool} {n v : ℕ} (I : BlockPassed block n v) where
-  pub member-above : v < 512 → getD block v false ≡ true → false ≡ allOf (λ (v : ℕ). ltb v n) (members block)
-  member-above k e = sym (not-true (λ h. let z = ltb-true v n (all-members (λ (v : ℕ). ltb v n) block h v e) in absurd (omega (arith, z, I .start))))
-
-  pub block-more : v < 512 → getD block v false ≡ false → BlockPassed block n (v + 1)
-  block-more k e = record {
+module _ {block : List Bool} {n : ℕ} {above : Bool} {v : ℕ} (I : BlockPassed block n above v) where
+  pub block-more : v < 512 → BlockPassed block n (above || getD block v false) (v + 1)
+  block-more k = record {
     fit = I .fit;
     start = omega (arith, I .start);
     low = omega arith;
     long = I .long;
-    clear = λ u a m. ⊎-elim (λ (x : u ≡ v). rw x e) (λ (x : u < v). I .clear u a x) (split-lt u v m);
+    clear = λ q u a m. ⊎-elim
+        (λ (x : u ≡ v). rw x (or-r above (getD block v false) q))
+        (λ (x : u < v). I .clear (or-l above (getD block v false) q) u a x)
+        (split-lt u v m);
+    found = λ q. ⊎-elim (I .found) (λ (x : getD block v false ≡ true). (v, I .start, x)) (or-cases above (getD block v false) q);
   }
 
-  pub block-done : 512 ≤ v → true ≡ allOf (λ (v : ℕ). ltb v n) (members block)
-  block-done k = sym (members-all (λ (v : ℕ). ltb v n) block (λ u e. elim (decLt u n) [
-    | yes l ↦ lt-ltb u n l
-    | no l ↦ absurd (clash-bool e (I .clear u (omega arith) (omega (arith, mark-low block u e, I .long))))
-  ]))
+  pub block-done : 512 ≤ v → not above ≡ allOf (λ (v : ℕ). ltb v n) (members block)
+  block-done k = bool-ext (not above) (allOf (λ (v : ℕ). ltb v n) (members block))
+      (λ q. members-all (λ (v : ℕ). ltb v n) block (λ u e. elim (decLt u n) [
+        | yes l ↦ lt-ltb u n l
+        | no l ↦ absurd (clash-bool e (I .clear (not-flip above q) u (omega arith) (omega (arith, mark-low block u e, I .long))))
+      ]))
+      (λ h. flip-not above (not-true (λ q. let r = I .found q in absurd (omega (arith, r .1, ltb-true (r .0) n (all-members (λ (v : ℕ). ltb v n) block h (r .0) (r .2)))))))
 
 abbrev pub startTest : List Bool → List Bool → ℕ → Bool
 startTest op into v = getD op v false && not (getD into v false)
 
-pub record FirstPassed (block op into : List Bool) (v : ℕ) : Type 0 where
+pub record FirstPassed (block op into : List Bool) (fit : Bool) (v : ℕ) : Type 0 where
   pub low : v ≤ 512
   pub long : length block ≡ 512
-  pub each : (u : ℕ) → u < v → (not (getD block u false) || startTest op into u) ≡ true
+  pub each : fit ≡ true → (u : ℕ) → u < v → (not (getD block u false) || startTest op into u) ≡ true
+  pub found : fit ≡ false → (u : ℕ) × ((not (getD block u false) || startTest op into u) ≡ false)
 
-module _ {block op into : List Bool} {v : ℕ} (I : FirstPassed block op into v) where
-  pub first-unfit : v < 512 → (not (getD block v false) || startTest op into v) ≡ false → false ≡ allOf (startTest op into) (members block)
-  first-unfit k e = sym (not-true (λ h.
-      let m : getD block v false ≡ true = not-false (λ (x : getD block v false ≡ false). let y : true ≡ false = rw x at e in clash-bool refl y) in
-      let y : startTest op into v ≡ false = rw m at e in
-      clash-bool (all-members (startTest op into) block h v m) y))
-
-  pub first-more : v < 512 → (not (getD block v false) || startTest op into v) ≡ true → FirstPassed block op into (v + 1)
-  first-more k e = record {
+module _ {block op into : List Bool} {fit : Bool} {v : ℕ} (I : FirstPassed block op into fit v) where
+  pub first-more : v < 512 → (b : Bool) → b ≡ (not (getD block v false) || startTest op into v) → FirstPassed block op into (fit && b) (v + 1)
+  first-more k b e = record {
     low = omega arith;
     long = I .long;
-    each = λ u m. ⊎-elim (λ (x : u ≡ v). rw x e) (λ (x : u < v). I .each u x) (split-lt u v m);
+    each = λ q u m. ⊎-elim (λ (x : u ≡ v). rw x (sym e ∙ and-r fit b q)) (λ (x : u < v). I .each (and-l fit b q) u x) (split-lt u v m);
+    found = λ q. ⊎-elim (I .found) (λ (x : b ≡ false). (v, sym e ∙ x)) (and-cases fit b q);
   }
 
-  pub first-done : 512 ≤ v → true ≡ allOf (startTest op into) (members block)
-  first-done k = sym (members-all (startTest op into) block (λ u e. ⊎-elim
+  pub first-done : 512 ≤ v → fit ≡ allOf (startTest op into) (members block)
+  first-done k = bool-ext fit (allOf (startTest op into) (members block))
+      (λ q. members-all (startTest op into) block (λ u e. ⊎-elim
       (λ (x : not (getD block u false) ≡ true). absurd (clash-bool e (not-flip (getD block u false) x)))
       (λ (x : startTest op into u ≡ true). x)
-      (or-cases (not (getD block u false)) (startTest op into u) (I .each u (omega (arith, mark-low block u e, I .long))))))
+      (or-cases (not (getD block u false)) (startTest op into u) (I .each q u (omega (arith, mark-low block u e, I .long))))))
+      (λ h. not-false (λ q.
+      let r = I .found q in
+      let m : getD block (r .0) false ≡ true = not-false (λ (x : getD block (r .0) false ≡ false). let y : true ≡ false = rw x at (r .1) in clash-bool refl y) in
+      let y : startTest op into (r .0) ≡ false = rw m at (r .1) in
+      clash-bool (all-members (startTest op into) block h (r .0) m) y))
 
 -- ---- the commuting list: `low` is one more than the last entry passed, 0 before the first
 

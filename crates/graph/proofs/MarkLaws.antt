@@ -6,14 +6,14 @@ use mathlib.Core.List.{List, [], _∷_}
 use Prim.Native.Nat.{ℕ, zero, suc, _+_, _-_, _≤_, _<_}
 use native.Mathlib.Omega.{arith}
 use native.Mathlib.Numerals.{add-one}
-use native.Mathlib.Decide.{ℕ-discrete}
-use lib.Dec.{eqb}
+use native.Mathlib.Decide.{decLt, ℕ-discrete}
+use lib.Dec.{ltb, leb, eqb}
 use lib.ListN.{length, getD, take, set, replicate, length-set}
 use lib.Seq.{take-suc, take-length, getD-set-same, getD-set-other}
-use borrow.Author.Tests.{eqb-true, eq-eqb, ne-eqb}
+use borrow.Author.Tests.{ltb-true, leb-true, le-leb, eqb-true, eq-eqb, ne-eqb}
 use Rattle.file.specs.Lists.{anyOf, member}
-use Rattle.graph.specs.Marks.{noNode, everyNode, unmarked, Listed, EndsBelow, Neighbours, Passes, Spread, Swept, Closed}
-use Rattle.graph.proofs.BoolLaws.{bool-cases, clash-bool, and-l, and-r, and-intro, or-cases, or-inl, or-inr, not-flip, flip-not, eqb-same, split-lt}
+use Rattle.graph.specs.Marks.{noNode, everyNode, unmarked, Listed, EndsBelow, Ordered, LeadsAbove, Neighbours, Passes, Spread, Swept, Closed}
+use Rattle.graph.proofs.BoolLaws.{bool-cases, clash-bool, and-l, and-r, and-intro, or-cases, or-l, or-r, or-inl, or-inr, not-flip, flip-not, eqb-same, split-lt}
 use Rattle.graph.proofs.ListLaws.{any-here, any-later, any-append}
 
 or-none : (b : Bool) → b ≡ (b || false)
@@ -188,14 +188,6 @@ cond-or true b = omega arith
 cond-or false true = omega arith
 cond-or false false = omega arith
 
-or-l : (a b : Bool) → (a || b) ≡ false → a ≡ false
-or-l true b h = h
-or-l false b h = refl
-
-or-r : (a b : Bool) → (a || b) ≡ false → b ≡ false
-or-r true b h = cc
-or-r false b h = h
-
 -- from i - 1 up: i - 1, or from i up
 pub from-below : (j i hi : ℕ) → 0 < i → i - 1 ≤ j → j < hi → (j ≡ i - 1) ⊎ ((i ≤ j) × (j < hi))
 from-below j i hi p x y = elim (ℕ-discrete j (i - 1)) [ yes e ↦ inl e | no m ↦ inr (omega arith, y) ]
@@ -206,6 +198,21 @@ module _ (near far : List ℕ) (m : ℕ) where
 
   pub spread-more : (old mid new : List Bool) → Spread near far m old mid → Spread near far m mid new → Spread near far m old new
   spread-more old mid new S T = record { more = λ u t. T .more u (S .more u t); only = λ p s h. T .only p s (S .only p s h) }
+
+  -- edge i passes its mark on
+  pub spread-one : (old mark : List Bool) → Spread near far m old mark → (i : ℕ) → i < m → (a b : ℕ) → a ≡ getD near i 0 → b ≡ getD far i 0 → a < length mark
+      → Spread near far m old (set mark a (getD mark a false || getD mark b false))
+  spread-one old mark S i k a b ea eb l =
+      let at : (u : ℕ) → getD (set mark a (getD mark a false || getD mark b false)) u false ≡ (getD mark u false || (eqb u a && getD mark b false)) = λ u. mark-or mark a u (getD mark b false) l in
+      record {
+        more = λ u h. at u ∙ or-inl (getD mark u false) _ (S .more u h);
+        only = λ p s h u g. ⊎-elim
+            (λ (x : getD mark u false ≡ true). S .only p s h u x)
+            (λ (x : (eqb u a && getD mark b false) ≡ true).
+            let q : u ≡ a = eqb-true u a (and-l (eqb u a) (getD mark b false) x) in
+            ap p (q ∙ ea) ∙ s i k (ap p (sym eb) ∙ S .only p s h b (and-r (eqb u a) (getD mark b false) x)))
+            (or-cases (getD mark u false) (eqb u a && getD mark b false) (sym (at u) ∙ g));
+      }
 
   module _ (mark₀ : List Bool) where
     -- the edges from lo to hi - 1 are passed
@@ -241,15 +248,7 @@ module _ (near far : List ℕ) (m : ℕ) where
           top = t;
           low = o;
           long = length-set mark a _ ∙ S .long;
-          spread = record {
-            more = λ u h. at u ∙ or-inl (getD mark u false) _ (S .spread .more u h);
-            only = λ p s h u g. ⊎-elim
-                (λ (x : getD mark u false ≡ true). S .spread .only p s h u x)
-                (λ (x : (eqb u a && getD mark b false) ≡ true).
-                let q : u ≡ a = eqb-true u a (and-l (eqb u a) (getD mark b false) x) in
-                ap p (q ∙ ea) ∙ s i k (ap p (sym eb) ∙ S .spread .only p s h b (and-r (eqb u a) (getD mark b false) x)))
-                (or-cases (getD mark u false) (eqb u a && getD mark b false) (sym (at u) ∙ g));
-          };
+          spread = spread-one mark₀ mark (S .spread) i k a b ea eb l;
           quiet = λ q j x y h.
               let still : (u : ℕ) → getD (set mark a (getD mark a false || getD mark b false)) u false ≡ getD mark u false = λ u. at u ∙ unmoved mark a b u (or-r moved (getD mark b false && not (getD mark a false)) q) in
               still (getD near j 0) ∙ ⊎-elim
@@ -295,3 +294,125 @@ module _ (near far : List ℕ) (m : ℕ) where
 
     pub spreads-all : (mark : List Bool) (moved : Bool) → Spreading mark moved → moved ≡ false → Closed near far m mark₀ mark
     spreads-all mark moved S q = record { long = S .long; spread = S .spread; quiet = S .quiet q }
+
+-- ---- an ordered edge list: one pass down settles the marks
+
+-- the edges before i are ordered, and last is the far end of the edge before i
+pub record Ordering (near far : List ℕ) (m : ℕ) (ordered : Bool) (last i : ℕ) : Type 0 where
+  pub count : m ≤ 2048
+  pub low : i ≤ m
+  pub told : ordered ≡ true → Ordered near far i
+  pub top : ordered ≡ true → (j : ℕ) → j < i → getD far j 0 ≤ last
+
+pub orders-none : (near far : List ℕ) (m : ℕ) (ordered : Bool) (last : ℕ) → m ≤ 2048 → Ordering near far m ordered last 0
+orders-none near far m ordered last k = record {
+  count = k;
+  low = omega arith;
+  told = λ q. record { rises = λ i l. absurd (omega arith); ascends = λ i j a l. absurd (omega arith) };
+  top = λ q j l. absurd (omega arith);
+}
+
+module _ {near far : List ℕ} {m : ℕ} {ordered : Bool} {last i : ℕ} (O : Ordering near far m ordered last i) where
+  pub orders-one : i < m → (x : Bool) → x ≡ (ltb (getD near i 0) (getD far i 0) && leb last (getD far i 0)) → Ordering near far m (ordered && x) (getD far i 0) (i + 1)
+  orders-one k x e = record {
+    count = O .count;
+    low = omega arith;
+    told = λ q. record {
+      rises = λ j l. ⊎-elim (λ (z : j ≡ i). rw z (rise q)) (λ (z : j < i). O .told (and-l ordered x q) .rises j z) (split-lt j i l);
+      ascends = λ j n a l. ⊎-elim
+          (λ (z : n ≡ i). rw z (below q j (omega arith)))
+          (λ (z : n < i). O .told (and-l ordered x q) .ascends j n a z)
+          (split-lt n i l);
+    };
+    top = λ q j l. below q j l;
+  }
+    where
+      rise : (ordered && x) ≡ true → getD near i 0 < getD far i 0
+      rise q = ltb-true _ _ (and-l (ltb (getD near i 0) (getD far i 0)) (leb last (getD far i 0)) (sym e ∙ and-r ordered x q))
+
+      below : (ordered && x) ≡ true → (j : ℕ) → j < i + 1 → getD far j 0 ≤ getD far i 0
+      below q j l = ⊎-elim
+          (λ (z : j ≡ i). rw z (omega arith))
+          (λ (z : j < i). omega (arith, O .top (and-l ordered x q) j z, leb-true last (getD far i 0) (and-r (ltb (getD near i 0) (getD far i 0)) (leb last (getD far i 0)) (sym e ∙ and-r ordered x q))))
+          (split-lt j i l)
+
+  pub orders-all : m ≤ i → ordered ≡ true → Ordered near far m
+  orders-all k q = let z : i ≡ m = omega (arith, O .low) in rw z at (O .told q)
+
+-- edges from high on lead above v; those between low and high are still to be asked
+pub record Halving (far : List ℕ) (m v low high : ℕ) : Type 0 where
+  pub count : m ≤ 2048
+  pub sorted : (i j : ℕ) → i ≤ j → j < m → getD far i 0 ≤ getD far j 0
+  pub between : low ≤ high
+  pub leads : LeadsAbove far m v high
+
+pub halves-down : (far : List ℕ) (m v low high mid : ℕ) → Halving far m v low high → low ≤ mid → mid < high → v < getD far mid 0 → Halving far m v low mid
+halves-down far m v low high mid H a b c = record {
+  count = H .count;
+  sorted = H .sorted;
+  between = a;
+  leads = record { within = omega (arith, H .leads .within); above = λ i x y. omega (arith, H .sorted mid i x y) };
+}
+
+-- the first edges of an ordered list
+pub orders-fewer : (near far : List ℕ) (m k : ℕ) → k ≤ m → Ordered near far m → Ordered near far k
+orders-fewer near far m k h O = record { rises = λ i l. O .rises i (omega arith); ascends = λ i j a l. O .ascends i j a (omega arith) }
+
+pub ends-fewer : (near far : List ℕ) (m k : ℕ) → k ≤ m → EndsBelow near far m → EndsBelow near far k
+ends-fewer near far m k h E = record { count = omega (arith, E .count); near-below = λ i l. E .near-below i (omega arith); far-below = λ i l. E .far-below i (omega arith) }
+
+-- the edges from i to k - 1 carry no mark further
+module _ (near far : List ℕ) (k : ℕ) (mark₀ : List Bool) where
+  pub record Settling (mark : List Bool) (i : ℕ) : Type 0 where
+    pub ends : EndsBelow near far k
+    pub ordered : Ordered near far k
+    pub low : i ≤ k
+    pub long : length mark ≡ 512
+    pub spread : Spread near far k mark₀ mark
+    pub quiet : (j : ℕ) → i ≤ j → j < k → getD mark (getD far j 0) false ≡ true → getD mark (getD near j 0) false ≡ true
+
+  pub settles-none : EndsBelow near far k → Ordered near far k → length mark₀ ≡ 512 → Settling mark₀ k
+  settles-none E O l = record { ends = E; ordered = O; low = omega arith; long = l; spread = spread-none near far k mark₀; quiet = λ j a b. absurd (omega arith) }
+
+  -- the far ends of the edges passed are above the near end of this one
+  pub settles-one : (mark : List Bool) (i : ℕ) → Settling mark i → 0 < i → (a b : ℕ) → a ≡ getD near (i - 1) 0 → b ≡ getD far (i - 1) 0
+      → Settling (set mark a (getD mark a false || getD mark b false)) (i - 1)
+  settles-one mark i S h a b ea eb =
+      let e : i - 1 < k = omega (arith, S .low) in
+      let l : a < length mark = omega (arith, S .ends .near-below (i - 1) e, S .long, ea) in
+      let at : (u : ℕ) → getD (set mark a (getD mark a false || getD mark b false)) u false ≡ (getD mark u false || (eqb u a && getD mark b false)) = λ u. mark-or mark a u (getD mark b false) l in
+      let far-still : (j : ℕ) → i - 1 ≤ j → j < k → getD (set mark a (getD mark a false || getD mark b false)) (getD far j 0) false ≡ getD mark (getD far j 0) false = λ j x y.
+      getD-set-other mark a (getD far j 0) _ false (λ z. absurd (omega (arith, z, ea, S .ordered .rises (i - 1) e, S .ordered .ascends (i - 1) j x y))) in
+      record {
+        ends = S .ends;
+        ordered = S .ordered;
+        low = omega (arith, S .low);
+        long = length-set mark a _ ∙ S .long;
+        spread = spread-one near far k mark₀ mark (S .spread) (i - 1) e a b ea eb l;
+        quiet = λ j x y t. at (getD near j 0) ∙ ⊎-elim
+            (λ (z : j ≡ i - 1). or-inr (getD mark (getD near j 0) false) _ (and-intro (eqb (getD near j 0) a) (getD mark b false)
+            (eq-eqb (getD near j 0) a (ap (λ (y : ℕ). getD near y 0) z ∙ sym ea))
+            (ap (λ (y : ℕ). getD mark y false) (eb ∙ ap (λ (y : ℕ). getD far y 0) (sym z)) ∙ sym (far-still j x y) ∙ t)))
+            (λ (z : (i ≤ j) × (j < k)). or-inl (getD mark (getD near j 0) false) _ (S .quiet j (z .0) y (sym (far-still j x y) ∙ t)))
+            (from-below j i k h x y);
+      }
+
+  pub settles-all : (mark : List Bool) → Settling mark 0 → Closed near far k mark₀ mark
+  settles-all mark S = record { long = S .long; spread = S .spread; quiet = λ j l. S .quiet j (omega arith) l }
+
+-- marks from v alone stay at or below v, so that the edges that lead above v carry none
+pub settled-above : (near far : List ℕ) (m k v : ℕ) (mark : List Bool) → v < 512 → Ordered near far m → LeadsAbove far m v k
+    → Closed near far k (set noNode v true) mark → Closed near far m (set noNode v true) mark
+settled-above near far m k v mark h O A C = record {
+  long = C .long;
+  spread = record { more = C .spread .more; only = λ p s. C .spread .only p (λ i l. s i (omega (arith, A .within))) };
+  quiet = λ i l t. elim (decLt i k) [
+    | yes x ↦ C .quiet i x t
+    | no x ↦ absurd (omega (arith, A .above i (omega arith) l, leb-true (getD far i 0) v (low (getD far i 0) t)))
+  ];
+}
+  where
+    low : (u : ℕ) → getD mark u false ≡ true → leb u v ≡ true
+    low = C .spread .only (λ u. leb u v)
+        (λ i l t. le-leb (getD near i 0) v (omega (arith, O .rises i (omega (arith, A .within)), leb-true (getD far i 0) v t)))
+        (λ u t. le-leb u v (omega (arith, eqb-true u v (sym (only-marked v u h) ∙ t))))

@@ -2,10 +2,11 @@
 ghost use mathlib.Core.Path.{_≡_};
 ghost use mathlib.Core.Bool.{true, false, not, _&&_};
 ghost use mathlib.Core.List.{_∷_, _++_};
-ghost use Prim.Native.Nat.{_+_, _-_, _≤_, _<_};
+ghost use Prim.Native.Nat.{ℕ, _+_, _-_, _≤_, _<_};
+ghost use lib.Dec.{ltb, leb};
 ghost use lib.ListN.{length, getD, set};
 ghost use lib.Seq.{slice};
-ghost use Rattle.graph.specs.Marks.{noNode, everyNode, kept, putAt, without, layerBy, Listed, EndsBelow, Neighbours, Swept, Closed, Waiting, FirstAt};
+ghost use Rattle.graph.specs.Marks.{noNode, everyNode, kept, putAt, without, layerBy, Listed, EndsBelow, Ordered, LeadsAbove, Neighbours, Swept, Closed, Waiting, FirstAt};
 ghost use Rattle.graph.specs.Queries.{answers, executionBlocked, blockingPredecessors, successors as successorsRule, newFrontLayer};
 use crate::CircuitDag;
 use crate::NodeIndex;
@@ -95,6 +96,15 @@ fn neighbours(skip: &[bool; 512], near: &[u16; 2048], far: &[u16; 2048], m: usiz
     r
 }
 
+// The near ends of the edges whose far end is v.
+fn neighbours_of(v: usize, near: &[u16; 2048], far: &[u16; 2048], m: usize) -> [bool; 512]
+    requires { ⌜ (v < 512) × EndsBelow (now near) (now far) m ⌝ }
+    ensures { λ r. ⌜ Neighbours (set everyNode v false) (now (near .entry)) (now (far .entry)) m r ⌝ }
+{
+    let others = all_but(v);
+    neighbours(&others, near, far, m)
+}
+
 // One pass up the edge list: a marked far end marks the near end, with no branch. Did a mark come new?
 fn sweep_up(mark: &mut [bool; 512], near: &[u16; 2048], far: &[u16; 2048], m: usize) -> bool
     requires { ⌜ EndsBelow (now near) (now far) m × (length (now mark) ≡ 512) ⌝ }
@@ -154,6 +164,63 @@ fn spread(mark: &mut [bool; 512], near: &[u16; 2048], far: &[u16; 2048], m: usiz
     while moved {
         moved = sweep(&mut *mark, near, far, m, up);
         up = !up;
+    }
+}
+
+// An edge leads to a larger number, which is not below the last edge's.
+fn rises(from: u16, to: u16, last: u16) -> bool
+    ensures { λ r. ⌜ r ≡ (ltb from to && leb last to) ⌝ }
+{
+    (from < to) & (last <= to)
+}
+
+// Does every edge lead to a larger number, and do these ascend along the list? So it is after insertions at the back alone. No branch on an
+// edge, so that the compiler takes many at a time.
+fn is_ordered(from: &[u16; 2048], to: &[u16; 2048], m: usize) -> bool
+    requires { ⌜ m ≤ 2048 ⌝ }
+    ensures { λ r. ⌜ (r ≡ true → Ordered (now (from .entry)) (now (to .entry)) m) ⌝ }
+{
+    let mut ordered = true;
+    let mut last: u16 = 0;
+    let mut i: usize = 0;
+    while i < m {
+        let t = to[i];
+        ordered = ordered & rises(from[i], t, last);
+        last = t;
+        i += 1;
+    }
+    ordered
+}
+
+// An index from which on the edges lead above v, by halving; their targets ascend.
+fn leads_above(to: &[u16; 2048], m: usize, v: usize) -> usize
+    requires { ⌜ (m ≤ 2048) × ((i j : ℕ) → i ≤ j → j < m → getD (now to) i 0 ≤ getD (now to) j 0) ⌝ }
+    ensures { λ r. ⌜ LeadsAbove (now (to .entry)) m v r ⌝ }
+{
+    let mut low: usize = 0;
+    let mut high: usize = m;
+    while low < high {
+        let mid = low + (high - low) / 2;
+        if v < wide(to[mid]) {
+            high = mid;
+        } else {
+            low = mid + 1;
+        }
+    }
+    high
+}
+
+// One pass down the first k edges of an ordered list carries every mark as far as it goes.
+fn settle(mark: &mut [bool; 512], near: &[u16; 2048], far: &[u16; 2048], k: usize)
+    requires { ⌜ EndsBelow (now near) (now far) k × Ordered (now near) (now far) k × (length (now mark) ≡ 512) ⌝ }
+    ensures { λ r. ⌜ Closed (now (near .entry)) (now (far .entry)) k (now (mark .entry)) (now (mark .exit)) ⌝ }
+{
+    let mut i: usize = k;
+    while 0 < i {
+        i -= 1;
+        let a = wide(near[i]);
+        let b = wide(far[i]);
+        mark[a] = mark[a] | mark[b];
     }
 }
 
@@ -235,12 +302,17 @@ fn copy_part(list: &[u16], a: usize, e: usize, buffer: &mut [u16], start: usize)
     }
 }
 
-// The node v and those from which it is reached: marks from v against the edges.
+// The node v and those from which it is reached: marks from v against the edges. In an ordered list no edge that leads above v counts.
 fn ancestors(from: &[u16; 2048], to: &[u16; 2048], m: usize, v: usize) -> [bool; 512]
     requires { ⌜ EndsBelow (now from) (now to) m × (v < 512) ⌝ }
     ensures { λ r. ⌜ Closed (now (from .entry)) (now (to .entry)) m (set noNode v true) r ⌝ }
 {
     let mut mark = only(v);
+    if is_ordered(from, to, m) {
+        let k = leads_above(to, m, v);
+        settle(&mut mark, from, to, k);
+        return mark;
+    }
     spread(&mut mark, from, to, m, false);
     mark
 }
@@ -353,8 +425,7 @@ pub fn blocking_predecessors(
     let m = g.edges.count;
     let from = g.edges.from;
     let to = g.edges.to;
-    let others = all_but(x);
-    let mark = neighbours(&others, &from, &to, m);
+    let mark = neighbours_of(x, &from, &to, m);
     let skip = listed(executed);
     answer_kept(&mark, &skip, n, buffer)
 }
@@ -374,8 +445,7 @@ pub fn successors(g: CircuitDag, v: NodeIndex, buffer: &mut [u16]) -> Query
     let m = g.edges.count;
     let from = g.edges.from;
     let to = g.edges.to;
-    let others = all_but(x);
-    let mark = neighbours(&others, &to, &from, m);
+    let mark = neighbours_of(x, &to, &from, m);
     let skip = none();
     answer_kept(&mark, &skip, n, buffer)
 }
@@ -406,8 +476,7 @@ pub fn new_front_layer(
     let m = g.edges.count;
     let from = g.edges.from;
     let to = g.edges.to;
-    let others = all_but(x);
-    let next = neighbours(&others, &to, &from, m);
+    let next = neighbours_of(x, &to, &from, m);
     let blank = none();
     let all = count_kept(&next, &blank, n);
     if all == 0 {

@@ -251,19 +251,18 @@ fn names_fit(all: NodeIndex, node: &[u16; 64], n: usize, op: &[bool; 512]) -> bo
     true
 }
 
-// The members of a block are nodes of the graph.
+// The members of a block are nodes of the graph. No branch on a member, so that the compiler takes many at a time.
 fn block_below(block: &[bool; 512], n: usize) -> bool
     requires { ⌜ (n ≤ 512) × (length (now block) ≡ 512) ⌝ }
     ensures { λ r. ⌜ r ≡ allOf (λ (v : ℕ). ltb v n) (members (now (block .entry))) ⌝ }
 {
+    let mut above = false;
     let mut v: usize = n;
     while v < 512 {
-        if block[v] {
-            return false;
-        }
+        above = above | block[v];
         v += 1;
     }
-    true
+    !above
 }
 
 // An end names qubit operations of the graph, and its block holds nodes of the graph.
@@ -285,13 +284,7 @@ fn end_fits(e: End, n: usize, op: &[bool; 512]) -> bool
 fn starts_circuit(member: bool, operation: bool, target: bool) -> bool
     ensures { λ r. ⌜ r ≡ (not member || (operation && not target)) ⌝ }
 {
-    if member {
-        if target {
-            return false;
-        }
-        return operation;
-    }
-    true
+    !member | (operation & !target)
 }
 
 // So are all members.
@@ -300,14 +293,13 @@ fn first_fits(block: &[bool; 512], op: &[bool; 512], into: &[bool; 512]) -> bool
     ensures { λ r. ⌜ r ≡ allOf (λ (v : ℕ). getD (now (op .entry)) v false && not (getD (now (into .entry)) v false))
         (members (now (block .entry))) ⌝ }
 {
+    let mut fit = true;
     let mut v: usize = 0;
     while v < 512 {
-        if !starts_circuit(block[v], op[v], into[v]) {
-            return false;
-        }
+        fit = fit & starts_circuit(block[v], op[v], into[v]);
         v += 1;
     }
-    true
+    fit
 }
 
 // The commuting list ascends strictly, below n.

@@ -246,14 +246,13 @@ fn marks_below(block: &[bool; 512], n: usize) -> bool
     requires { ⌜ (n ≤ 512) × (length (now block) ≡ 512) ⌝ }
     ensures { λ r. ⌜ r ≡ allOf (λ (v : ℕ). ltb v n) (members (now (block .entry))) ⌝ }
 {
+    let mut above = false;
     let mut v: usize = n;
     while v < 512 {
-        if block[v] {
-            return false;
-        }
+        above = above | block[v];
         v += 1;
     }
-    true
+    !above
 }
 
 // The members of either set.

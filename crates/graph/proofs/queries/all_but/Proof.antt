@@ -5,9 +5,6 @@ use mathlib.Core.Path.{ap}
 use borrow.Author.Needs.{needs}
 use Rattle.graph.proofs.queries.all_but.Statement.{statement}
 use Rattle.graph.proofs.queries.all_but.Tie as tie
-use Rattle.graph.proofs.queries.all_but.Reads as reads
-use Rattle.graph.proofs.queries.all_but.Lts as lts
-use Rattle.graph.proofs.queries.every.Reads as every-reads
 
 every-requires : tie.Need-every-requires
 every-requires c κs = search needs

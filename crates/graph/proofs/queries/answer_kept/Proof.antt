@@ -3,10 +3,6 @@ use Rattle.graph.proofs.BufferLaws.{answers-short, answers-whole}
 use borrow.Author.Needs.{needs}
 use Rattle.graph.proofs.queries.answer_kept.Statement.{statement}
 use Rattle.graph.proofs.queries.answer_kept.Tie as tie
-use Rattle.graph.proofs.queries.answer_kept.Reads as reads
-use Rattle.graph.proofs.queries.answer_kept.Lts as lts
-use Rattle.graph.proofs.queries.count_kept.Reads as count-kept-reads
-use Rattle.graph.proofs.queries.write_kept.Reads as write-kept-reads
 
 count-kept-requires : tie.Need-count-kept-requires
 count-kept-requires c κs = search needs

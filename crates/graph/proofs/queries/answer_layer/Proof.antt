@@ -4,11 +4,6 @@ use mathlib.Core.List.{_++_}
 use borrow.Author.Needs.{needs}
 use Rattle.graph.proofs.queries.answer_layer.Statement.{statement}
 use Rattle.graph.proofs.queries.answer_layer.Tie as tie
-use Rattle.graph.proofs.queries.answer_layer.Reads as reads
-use Rattle.graph.proofs.queries.answer_layer.Lts as lts
-use Rattle.graph.proofs.queries.answer_next.Reads as answer-next-reads
-use Rattle.graph.proofs.queries.answer_same.Reads as answer-same-reads
-use Rattle.graph.proofs.queries.count_kept.Reads as count-kept-reads
 
 count-kept-requires : tie.Need-count-kept-requires
 count-kept-requires c κs = search needs

@@ -4,10 +4,6 @@ use native.Mathlib.Omega.{arith}
 use borrow.Author.Needs.{needs}
 use Rattle.graph.proofs.queries.answer_next.Statement.{statement}
 use Rattle.graph.proofs.queries.answer_next.Tie as tie
-use Rattle.graph.proofs.queries.answer_next.Reads as reads
-use Rattle.graph.proofs.queries.answer_next.Lts as lts
-use Rattle.graph.proofs.queries.copy_part.Reads as copy-part-reads
-use Rattle.graph.proofs.queries.write_kept.Reads as write-kept-reads
 
 sub-rest : tie.Need-sub-rest
 sub-rest c = search needs

@@ -3,9 +3,6 @@ use Rattle.graph.proofs.BufferLaws.{answers-short, answers-copied}
 use borrow.Author.Needs.{needs}
 use Rattle.graph.proofs.queries.answer_same.Statement.{statement}
 use Rattle.graph.proofs.queries.answer_same.Tie as tie
-use Rattle.graph.proofs.queries.answer_same.Reads as reads
-use Rattle.graph.proofs.queries.answer_same.Lts as lts
-use Rattle.graph.proofs.queries.copy_part.Reads as copy-part-reads
 
 returns : tie.Need-returns
 returns c = let a = c .before .before .before .args in

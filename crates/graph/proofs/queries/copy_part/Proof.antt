@@ -3,8 +3,6 @@ use Prim.Native.Nat.{_-_}
 use borrow.Author.Needs.{needs}
 use Rattle.graph.proofs.queries.copy_part.Statement.{statement}
 use Rattle.graph.proofs.queries.copy_part.Tie as tie
-use Rattle.graph.proofs.queries.copy_part.Reads as reads
-use Rattle.graph.proofs.queries.copy_part.Lts as lts
 
 abbrev Inv-loop : tie.InvT-loop
 Inv-loop list a e buffer₀ start i₀ buffer i = Copying list a e start buffer₀ buffer i

@@ -2,8 +2,6 @@ use Rattle.graph.specs.Marks.{everyNode}
 use borrow.Author.Needs.{needs}
 use Rattle.graph.proofs.queries.every.Statement.{statement}
 use Rattle.graph.proofs.queries.every.Tie as tie
-use Rattle.graph.proofs.queries.every.Reads as reads
-use Rattle.graph.proofs.queries.every.Lts as lts
 
 returns : tie.Need-returns
 unfolding everyNode

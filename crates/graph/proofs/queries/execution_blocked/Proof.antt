@@ -11,13 +11,6 @@ use Rattle.graph.proofs.QueryLaws.{blocked-unsound, blocked-absent, blo
 use borrow.Author.Needs.{needs}
 use Rattle.graph.proofs.queries.execution_blocked.Statement.{statement}
 use Rattle.graph.proofs.queries.execution_blocked.Tie as tie
-use Rattle.graph.proofs.queries.execution_blocked.Reads as reads
-use Rattle.graph.proofs.queries.execution_blocked.Lts as lts
-use Rattle.graph.proofs.queries.ancestors.Reads as ancestors-reads
-use Rattle.graph.proofs.queries.answer_kept.Reads as answer-kept-reads
-use Rattle.graph.proofs.queries.listed_with.Reads as listed-with-reads
-use Rattle.graph.proofs.queries.wide.Reads as wide-reads
-use Rattle.graph.proofs.soundness.is_sound.Reads as is-sound-reads
 
 told : (c : tie.Else1) → sound (c .before .before .before .before .args .g) ≡ true
 told c = sym (c .before .is-sound .ensures) ∙ not-false _ (c .if1 .left)

@@ -8,8 +8,6 @@ use Prim.Native.Nat.{_-_, _≤_, _<_, ℕ}
 use borrow.Author.Needs.{needs}
 use Rattle.graph.proofs.queries.index_in.Statement.{statement}
 use Rattle.graph.proofs.queries.index_in.Tie as tie
-use Rattle.graph.proofs.queries.index_in.Reads as reads
-use Rattle.graph.proofs.queries.index_in.Lts as lts
 
 abbrev Inv-loop : tie.InvT-loop
 Inv-loop list v i₀ i = (i ≤ length list) × ((j : ℕ) → j < i → eqb v (getD list j 0) ≡ false)

@@ -5,9 +5,6 @@ use Prim.Native.Nat.{_-_}
 use borrow.Author.Needs.{needs}
 use Rattle.graph.proofs.queries.listed.Statement.{statement}
 use Rattle.graph.proofs.queries.listed.Tie as tie
-use Rattle.graph.proofs.queries.listed.Reads as reads
-use Rattle.graph.proofs.queries.listed.Lts as lts
-use Rattle.graph.proofs.queries.wide.Reads as wide-reads
 
 abbrev Inv-loop : tie.InvT-loop
 Inv-loop list r₀ i₀ r i = Listing list r i

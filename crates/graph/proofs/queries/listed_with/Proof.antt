@@ -2,9 +2,6 @@ use Rattle.graph.proofs.MarkLaws.{lists-with}
 use borrow.Author.Needs.{needs}
 use Rattle.graph.proofs.queries.listed_with.Statement.{statement}
 use Rattle.graph.proofs.queries.listed_with.Tie as tie
-use Rattle.graph.proofs.queries.listed_with.Reads as reads
-use Rattle.graph.proofs.queries.listed_with.Lts as lts
-use Rattle.graph.proofs.queries.listed.Reads as listed-reads
 
 listed-requires : tie.Need-listed-requires
 listed-requires c κs = search needs

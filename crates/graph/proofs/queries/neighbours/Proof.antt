@@ -6,9 +6,6 @@ use Rattle.graph.proofs.MarkLaws.{Meeting}
 use borrow.Author.Needs.{needs}
 use Rattle.graph.proofs.queries.neighbours.Statement.{statement}
 use Rattle.graph.proofs.queries.neighbours.Tie as tie
-use Rattle.graph.proofs.queries.neighbours.Reads as reads
-use Rattle.graph.proofs.queries.neighbours.Lts as lts
-use Rattle.graph.proofs.queries.wide.Reads as wide-reads
 
 abbrev Inv-loop : tie.InvT-loop
 Inv-loop skip near far m r₀ i₀ r i = Meeting skip near far m r i

@@ -1,33 +1,20 @@
 use Prim.Native.Nat.{_<_}
 use native.Mathlib.Omega.{arith}
-use mathlib.Core.Path.{_≡_, sym, _∙_, ap, subst}
-use mathlib.Core.Bool.{Bool, true, false}
+use mathlib.Core.Path.{_≡_, sym, _∙_, ap}
+use mathlib.Core.Bool.{Bool, true}
 use mathlib.Core.List.{List, _++_}
-use lib.ListN.{length, set}
+use lib.ListN.{length}
 use borrow.Author.Tests.{not-true, not-false}
 use Rattle.graph.specs.Soundness.{sound}
 use Rattle.graph.proofs.SizeLaws.{dag-sized}
 use Rattle.graph.proofs.SoundnessLaws.{Sound, sound-told}
 use Rattle.graph.specs.Queries.{answers}
-use Rattle.graph.specs.Marks.{noNode, everyNode, kept, without, Neighbours}
+use Rattle.graph.specs.Marks.{noNode, kept, without}
 use Rattle.graph.proofs.ReachLaws.{ends-on}
 use Rattle.graph.proofs.QueryLaws.{layer-unsound, layer-absent, layer-without, layer-answers, layer-alone}
 use borrow.Author.Needs.{needs}
 use Rattle.graph.proofs.queries.new_front_layer.Statement.{statement}
 use Rattle.graph.proofs.queries.new_front_layer.Tie as tie
-use Rattle.graph.proofs.queries.new_front_layer.Reads as reads
-use Rattle.graph.proofs.queries.new_front_layer.Lts as lts
-use Rattle.graph.proofs.queries.all_but.Reads as all-but-reads
-use Rattle.graph.proofs.queries.answer_layer.Reads as answer-layer-reads
-use Rattle.graph.proofs.queries.answer_next.Reads as answer-next-reads
-use Rattle.graph.proofs.queries.count_kept.Reads as count-kept-reads
-use Rattle.graph.proofs.queries.index_in.Reads as index-in-reads
-use Rattle.graph.proofs.queries.listed_with.Reads as listed-with-reads
-use Rattle.graph.proofs.queries.neighbours.Reads as neighbours-reads
-use Rattle.graph.proofs.queries.none.Reads as none-reads
-use Rattle.graph.proofs.queries.waiting.Reads as waiting-reads
-use Rattle.graph.proofs.queries.wide.Reads as wide-reads
-use Rattle.graph.proofs.soundness.is_sound.Reads as is-sound-reads
 
 told : (c : tie.Else1) → sound (c .before .before .before .before .before .args .g) ≡ true
 told c = sym (c .before .is-sound .ensures) ∙ not-false _ (c .if1 .left)
@@ -38,11 +25,8 @@ sound-of c = let g = c .before .before .before .before .before .args .g in sound
 node-low : (c : tie.Else2) → c .before .wide .result < 512
 node-low c = omega (arith, c .if2 .left, sound-of (c .before .before) .node-count)
 
-met : (c : tie.After-neighbours) → Neighbours (set everyNode (c .before .before .before .before .before .before .before .before .before .before .wide .result) false) (c .before .before .before .before .before .before .before .before .before .before .before .before .before .before .before .before .args .g .edges .to) (c .before .before .before .before .before .before .before .before .before .before .before .before .before .before .before .before .args .g .edges .from) (c .before .before .before .before .before .before .before .before .before .before .before .before .before .before .before .before .args .g .edges .count) (c .neighbours .result)
-met c = let g = c .before .before .before .before .before .before .before .before .before .before .before .before .before .before .before .before .args .g in subst (λ (x : List Bool). Neighbours x (g .edges .to) (g .edges .from) (g .edges .count) (c .neighbours .result)) (c .before .before .before .before .all-but .ensures) (c .neighbours .ensures)
-
-counted : (c : tie.After-count-kept) → c .count-kept .result ≡ length (kept (c .before .before .before .before .neighbours .result) noNode (c .before .before .before .before .before .before .before .before .before .before .before .before .before .before .before .before .before .before .before .before .args .g .nodes .count))
-counted c = c .count-kept .ensures ∙ ap (λ (s : List Bool). length (kept (c .before .before .before .before .neighbours .result) s (c .before .before .before .before .before .before .before .before .before .before .before .before .before .before .before .before .before .before .before .before .args .g .nodes .count))) (c .before .before .before .none .ensures)
+counted : (c : tie.After-count-kept) → c .count-kept .result ≡ length (kept (c .before .before .before .before .neighbours-of .result) noNode (c .before .before .before .before .before .before .before .before .before .before .before .before .before .before .before .before .before .before .args .g .nodes .count))
+counted c = c .count-kept .ensures ∙ ap (λ (s : List Bool). length (kept (c .before .before .before .before .neighbours-of .result) s (c .before .before .before .before .before .before .before .before .before .before .before .before .before .before .before .before .before .before .args .g .nodes .count))) (c .before .before .before .none .ensures)
 
 is-sound-requires : tie.Need-is-sound-requires
 is-sound-requires c κs = search needs
@@ -63,49 +47,46 @@ returns-3 : tie.Need-returns-3
 returns-3 c = let a = c .before .before .before .before .before .before .before .before .before .args in
     layer-without (a .g) (a .executed .now) (a .v .0) (a .buffer .now) (a .layer .now) (told (c .before .before .before .before)) _ (c .before .before .before .wide .ensures) (c .before .before .if2 .left) _ (c .before .index-in .ensures) (c .if3 .taken)
 
-all-but-requires : tie.Need-all-but-requires
-all-but-requires c κs = node-low (c .before .before .before .before)
-
-neighbours-requires : tie.Need-neighbours-requires
-neighbours-requires c κs = ends-on _ (sound-of (c .before .before .before .before .before .before .before .before .before .before))
+neighbours-of-requires : tie.Need-neighbours-of-requires
+neighbours-of-requires c κs = (node-low (c .before .before .before .before .before .before), ends-on _ (sound-of (c .before .before .before .before .before .before .before .before)))
 
 none-requires : tie.Need-none-requires
 none-requires c κs = search needs
 
 count-kept-requires : tie.Need-count-kept-requires
-count-kept-requires c κs = sound-of (c .before .before .before .before .before .before .before .before .before .before .before .before .before .before) .node-count
+count-kept-requires c κs = sound-of (c .before .before .before .before .before .before .before .before .before .before .before .before) .node-count
 
 answer-next-requires : tie.Need-answer-next-requires
-answer-next-requires c κs = (sound-of (c .before .before .before .before .before .before .before .before .before .before .before .before .before .before .before .before .before .before .before) .node-count, c .before .before .before .before .count-kept .ensures, c .before .before .before .before .before .before .before .before .before .before .before .before .before .before .before .if3 .left)
+answer-next-requires c κs = (sound-of (c .before .before .before .before .before .before .before .before .before .before .before .before .before .before .before .before .before) .node-count, c .before .before .before .before .count-kept .ensures, c .before .before .before .before .before .before .before .before .before .before .before .before .before .if3 .left)
 
 same-length : tie.Need-same-length
 same-length c = search needs
 
 returns-4 : tie.Need-returns-4
-returns-4 c = let a = c .before .before .before .before .before .before .before .before .before .before .before .before .before .before .before .before .before .before .before .before .before .before .before .before .before .before .before .args in
-    let s = c .before .before .before .before .before .before .before .before .before .before .before .before .before .before .before .before .before .before .before .before .before .before in
+returns-4 c = let a = c .before .before .before .before .before .before .before .before .before .before .before .before .before .before .before .before .before .before .before .before .before .before .before .before .before .args in
+    let s = c .before .before .before .before .before .before .before .before .before .before .before .before .before .before .before .before .before .before .before .before in
     let n = c .before .before .before .before .before .before .before .before .before .before .before in
-    layer-alone (a .g) (sound-of s) (told s) _ (a .v .0) (c .before .before .before .before .before .before .before .before .before .before .before .before .before .before .before .before .before .before .before .before .before .wide .ensures) (c .before .before .before .before .before .before .before .before .before .before .before .before .before .before .before .before .before .before .before .before .if2 .left) (a .buffer .now) _ (n .neighbours .result) noNode (a .executed .now) (a .layer .now) (c .before .before .before .before .before .before .before .before .before .before .before .before .before .before .before .before .before .before .before .index-in .result) (met n) (c .before .before .before .before .before .before .before .before .before .before .before .before .before .before .before .before .before .before .before .index-in .ensures) (c .before .before .before .before .before .before .before .before .before .before .before .before .before .before .before .before .before .before .if3 .left)
+    layer-alone (a .g) (sound-of s) (told s) _ (a .v .0) (c .before .before .before .before .before .before .before .before .before .before .before .before .before .before .before .before .before .before .before .wide .ensures) (c .before .before .before .before .before .before .before .before .before .before .before .before .before .before .before .before .before .before .if2 .left) (a .buffer .now) _ (n .neighbours-of .result) noNode (a .executed .now) (a .layer .now) (c .before .before .before .before .before .before .before .before .before .before .before .before .before .before .before .before .before .index-in .result) (n .neighbours-of .ensures) (c .before .before .before .before .before .before .before .before .before .before .before .before .before .before .before .before .before .index-in .ensures) (c .before .before .before .before .before .before .before .before .before .before .before .before .before .before .before .before .if3 .left)
     _ (counted (c .before .before .before .before .before .before .before)) (c .before .before .before .before .before .before .if4 .taken)
-    (c .before .before .answer-next .ensures ∙ ap (λ (x : List Bool). answers (without (c .before .before .before .before .before .before .before .before .before .before .before .before .before .before .before .before .before .before .before .index-in .result) (a .layer .now) ++ kept (n .neighbours .result) x (a .g .nodes .count)) (a .buffer .now)) (c .before .before .before .before .before .before .before .before .before .before .none .ensures))
+    (c .before .before .answer-next .ensures ∙ ap (λ (x : List Bool). answers (without (c .before .before .before .before .before .before .before .before .before .before .before .before .before .before .before .before .before .index-in .result) (a .layer .now) ++ kept (n .neighbours-of .result) x (a .g .nodes .count)) (a .buffer .now)) (c .before .before .before .before .before .before .before .before .before .before .none .ensures))
 
 listed-with-requires : tie.Need-listed-with-requires
-listed-with-requires c κs = node-low (c .before .before .before .before .before .before .before .before .before .before .before .before .before .before)
+listed-with-requires c κs = node-low (c .before .before .before .before .before .before .before .before .before .before .before .before)
 
 waiting-requires : tie.Need-waiting-requires
-waiting-requires c κs = ends-on _ (sound-of (c .before .before .before .before .before .before .before .before .before .before .before .before .before .before .before .before .before .before .before .before))
+waiting-requires c κs = ends-on _ (sound-of (c .before .before .before .before .before .before .before .before .before .before .before .before .before .before .before .before .before .before))
 
 answer-layer-requires : tie.Need-answer-layer-requires
-answer-layer-requires c κs = (sound-of (c .before .before .before .before .before .before .before .before .before .before .before .before .before .before .before .before .before .before .before .before .before .before .before .before) .node-count, c .before .before .before .before .before .before .before .before .before .before .before .before .before .before .before .before .before .before .before .before .if3 .left)
+answer-layer-requires c κs = (sound-of (c .before .before .before .before .before .before .before .before .before .before .before .before .before .before .before .before .before .before .before .before .before .before) .node-count, c .before .before .before .before .before .before .before .before .before .before .before .before .before .before .before .before .before .before .if3 .left)
 
 same-length-2 : tie.Need-same-length-2
 same-length-2 c = search needs
 
 returns-5 : tie.Need-returns-5
-returns-5 c = let a = c .before .before .before .before .before .before .before .before .before .before .before .before .before .before .before .before .before .before .before .before .before .before .before .before .before .before .before .before .before .before .before .before .args in
-    let s = c .before .before .before .before .before .before .before .before .before .before .before .before .before .before .before .before .before .before .before .before .before .before .before .before .before .before .before in
+returns-5 c = let a = c .before .before .before .before .before .before .before .before .before .before .before .before .before .before .before .before .before .before .before .before .before .before .before .before .before .before .before .before .before .before .args in
+    let s = c .before .before .before .before .before .before .before .before .before .before .before .before .before .before .before .before .before .before .before .before .before .before .before .before .before in
     let n = c .before .before .before .before .before .before .before .before .before .before .before .before .before .before .before .before in
-    layer-answers (a .g) (sound-of s) (told s) _ (a .v .0) (c .before .before .before .before .before .before .before .before .before .before .before .before .before .before .before .before .before .before .before .before .before .before .before .before .before .before .wide .ensures) (c .before .before .before .before .before .before .before .before .before .before .before .before .before .before .before .before .before .before .before .before .before .before .before .before .before .if2 .left) (a .buffer .now) _ (n .neighbours .result) (c .before .before .before .before .before .before .before .before .before .before .listed-with .result) (a .executed .now) (a .layer .now) (c .before .before .before .before .before .before .before .before .before .before .before .before .before .before .before .before .before .before .before .before .before .before .before .before .index-in .result) (met n) (c .before .before .before .before .before .before .before .before .before .before .before .before .before .before .before .before .before .before .before .before .before .before .before .before .index-in .ensures) (c .before .before .before .before .before .before .before .before .before .before .before .before .before .before .before .before .before .before .before .before .before .before .before .if3 .left)
+    layer-answers (a .g) (sound-of s) (told s) _ (a .v .0) (c .before .before .before .before .before .before .before .before .before .before .before .before .before .before .before .before .before .before .before .before .before .before .before .before .wide .ensures) (c .before .before .before .before .before .before .before .before .before .before .before .before .before .before .before .before .before .before .before .before .before .before .before .if2 .left) (a .buffer .now) _ (n .neighbours-of .result) (c .before .before .before .before .before .before .before .before .before .before .listed-with .result) (a .executed .now) (a .layer .now) (c .before .before .before .before .before .before .before .before .before .before .before .before .before .before .before .before .before .before .before .before .before .before .index-in .result) (n .neighbours-of .ensures) (c .before .before .before .before .before .before .before .before .before .before .before .before .before .before .before .before .before .before .before .before .before .before .index-in .ensures) (c .before .before .before .before .before .before .before .before .before .before .before .before .before .before .before .before .before .before .before .before .before .if3 .left)
     (c .before .before .before .before .before .before .waiting .result) _ (counted (c .before .before .before .before .before .before .before .before .before .before .before .before)) (c .before .before .before .before .before .before .before .before .before .before .before .if4 .left) (c .before .before .before .before .before .before .before .before .before .before .listed-with .ensures) (c .before .before .before .before .before .before .waiting .ensures) (c .before .before .answer-layer .ensures)
 
 pub new-front-layer-spec : {M : Type 1} → statement M
@@ -118,8 +99,7 @@ new-front-layer-spec =
     returns-2
     index-in-requires
     returns-3
-    all-but-requires
-    neighbours-requires
+    neighbours-of-requires
     none-requires
     count-kept-requires
     answer-next-requires

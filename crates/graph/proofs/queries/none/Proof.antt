@@ -2,8 +2,6 @@ use Rattle.graph.specs.Marks.{noNode}
 use borrow.Author.Needs.{needs}
 use Rattle.graph.proofs.queries.none.Statement.{statement}
 use Rattle.graph.proofs.queries.none.Tie as tie
-use Rattle.graph.proofs.queries.none.Reads as reads
-use Rattle.graph.proofs.queries.none.Lts as lts
 
 returns : tie.Need-returns
 unfolding noNode

@@ -5,9 +5,6 @@ use mathlib.Core.Path.{ap}
 use borrow.Author.Needs.{needs}
 use Rattle.graph.proofs.queries.only.Statement.{statement}
 use Rattle.graph.proofs.queries.only.Tie as tie
-use Rattle.graph.proofs.queries.only.Reads as reads
-use Rattle.graph.proofs.queries.only.Lts as lts
-use Rattle.graph.proofs.queries.none.Reads as none-reads
 
 none-requires : tie.Need-none-requires
 none-requires c κs = search needs

@@ -6,9 +6,6 @@ use Rattle.graph.specs.Marks.{unmarked}
 use native.Mathlib.Omega.{arith}
 use Rattle.graph.proofs.queries.spread.Statement.{statement}
 use Rattle.graph.proofs.queries.spread.Tie as tie
-use Rattle.graph.proofs.queries.spread.Reads as reads
-use Rattle.graph.proofs.queries.spread.Lts as lts
-use Rattle.graph.proofs.queries.sweep.Reads as sweep-reads
 
 abbrev Inv-loop : tie.InvT-loop
 Inv-loop mark₀ near far m first-up up₀ moved₀ mark up moved = Spreading near far m mark₀ mark moved

@@ -6,9 +6,6 @@ use Prim.Native.Nat.{_-_}
 use borrow.Author.Needs.{needs}
 use Rattle.graph.proofs.queries.sweep_down.Statement.{statement}
 use Rattle.graph.proofs.queries.sweep_down.Tie as tie
-use Rattle.graph.proofs.queries.sweep_down.Reads as reads
-use Rattle.graph.proofs.queries.sweep_down.Lts as lts
-use Rattle.graph.proofs.queries.wide.Reads as wide-reads
 
 abbrev Inv-loop : tie.InvT-loop
 Inv-loop mark₀ near far m moved₀ i₀ mark moved i = Sweeping near far m mark₀ mark moved i m

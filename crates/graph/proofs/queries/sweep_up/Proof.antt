@@ -8,9 +8,6 @@ use Prim.Native.Nat.{_-_}
 use borrow.Author.Needs.{needs}
 use Rattle.graph.proofs.queries.sweep_up.Statement.{statement}
 use Rattle.graph.proofs.queries.sweep_up.Tie as tie
-use Rattle.graph.proofs.queries.sweep_up.Reads as reads
-use Rattle.graph.proofs.queries.sweep_up.Lts as lts
-use Rattle.graph.proofs.queries.wide.Reads as wide-reads
 
 abbrev Inv-loop : tie.InvT-loop
 Inv-loop mark₀ near far m moved₀ i₀ mark moved i = Sweeping near far m mark₀ mark moved 0 i

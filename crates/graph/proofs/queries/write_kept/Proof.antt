@@ -5,9 +5,6 @@ use Prim.Native.Nat.{_-_}
 use borrow.Author.Needs.{needs}
 use Rattle.graph.proofs.queries.write_kept.Statement.{statement}
 use Rattle.graph.proofs.queries.write_kept.Tie as tie
-use Rattle.graph.proofs.queries.write_kept.Reads as reads
-use Rattle.graph.proofs.queries.write_kept.Lts as lts
-use Rattle.graph.proofs.queries.is_kept.Reads as is-kept-reads
 
 abbrev Inv-loop : tie.InvT-loop
 Inv-loop mark skip n buffer₀ start k₀ u₀ buffer k u = Writing mark skip n start buffer₀ buffer k u

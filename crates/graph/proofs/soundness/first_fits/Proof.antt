@@ -1,21 +1,21 @@
 -- `graph::soundness::first_fits` meets its contract. Assumes nothing.
-use mathlib.Core.Path.{sym, _∙_}
+use mathlib.Core.Path.{refl}
 use Prim.Native.Nat.{_-_}
 use native.Mathlib.Omega.{arith}
-use borrow.Author.Tests.{not-true, not-false}
 use borrow.Author.Needs.{needs}
-use Rattle.graph.proofs.CheckLaws.{FirstPassed, first-unfit, first-more, first-done}
+use Rattle.graph.proofs.BoolLaws.{clash-bool}
+use Rattle.graph.proofs.CheckLaws.{FirstPassed, first-more, first-done}
 use Rattle.graph.proofs.soundness.first_fits.Statement.{statement}
 use Rattle.graph.proofs.soundness.first_fits.Tie as tie
 
 abbrev Inv-loop : tie.InvT-loop
-Inv-loop block op into v₀ v = FirstPassed block op into v
+Inv-loop block op into fit₀ v₀ fit v = FirstPassed block op into fit v
 
 abbrev μ-loop : tie.MeasureT-loop
-μ-loop block op into v₀ v = 512 - v
+μ-loop block op into fit₀ v₀ fit v = 512 - v
 
 loop-holds : tie.Need-loop-holds Inv-loop μ-loop
-loop-holds c = record { low = omega arith; long = c .pre; each = λ u k. absurd (omega arith) }
+loop-holds c = record { low = omega arith; long = c .pre; each = λ q u k. absurd (omega arith); found = λ q. absurd (clash-bool refl q) }
 
 element-copy-out-starts-circuit : tie.Need-element-copy-out-starts-circuit Inv-loop μ-loop
 element-copy-out-starts-circuit c = search needs
@@ -29,9 +29,6 @@ element-copy-out-starts-circuit-3 c = search needs
 starts-circuit-requires : tie.Need-starts-circuit-requires Inv-loop μ-loop
 starts-circuit-requires c κs = search needs
 
-returns : tie.Need-returns Inv-loop μ-loop
-returns c = let d = c .before .before .before .before in first-unfit (d .before .before .loop .inv) (d .before .loop-test .taken) (sym (c .before .starts-circuit .ensures) ∙ not-true _ (c .if1 .taken))
-
 add-v : tie.Need-add-v Inv-loop μ-loop
 add-v c = search needs
 
@@ -39,10 +36,10 @@ loop-less : tie.Need-loop-less Inv-loop μ-loop
 loop-less c = search needs
 
 loop-again : tie.Need-loop-again Inv-loop μ-loop
-loop-again c = let d = c .before .before .before .before in first-more (d .before .before .loop .inv) (d .before .loop-test .taken) (sym (c .before .starts-circuit .ensures) ∙ not-false _ (c .if1 .left))
+loop-again c = let d = c .before .before .before .before in first-more (d .before .loop .inv) (d .loop-test .taken) _ (c .starts-circuit .ensures)
 
-returns-2 : tie.Need-returns-2 Inv-loop μ-loop
-returns-2 c = first-done (c .before .loop .inv) (c .loop-test .left)
+returns : tie.Need-returns Inv-loop μ-loop
+returns c = first-done (c .before .loop .inv) (c .loop-test .left)
 
 pub first-fits-spec : {M : Type 1} → statement M
 first-fits-spec =
@@ -55,8 +52,7 @@ first-fits-spec =
     element-copy-out-starts-circuit-2
     element-copy-out-starts-circuit-3
     starts-circuit-requires
-    returns
     add-v
     loop-less
     loop-again
-    returns-2)
+    returns)
