@@ -2,13 +2,13 @@
 use mathlib.Core.Path.{_≡_, refl, sym, _∙_, ap}
 use mathlib.Core.Bool.{Bool, true, false, cond, _&&_}
 use mathlib.Core.List.{List, [], _∷_, _++_}
-use Prim.Native.Nat.{ℕ, zero, suc, _+_, _≤_, _<_}
+use Prim.Native.Nat.{ℕ, suc, _+_, _≤_, _<_}
 use native.Mathlib.Omega.{arith}
 use lib.Dec.{eqb}
 use lib.ListN.{length, getD, drop, replicate, length-replicate, length-append}
 use lib.Seq.{sets, sets-eq}
 use borrow.Author.Tests.{lt-ltb, eqb-true, eq-eqb}
-use Rattle.file.specs.Lists.{keep, consIf, countFrom, upTo, member, members, anyOf, isEmpty, onto}
+use Rattle.file.specs.Lists.{keep, upTo, member, members, anyOf, isEmpty, onto}
 use Rattle.file.specs.declared.Refusal.{Refusal}
 use Rattle.graph.specs.declared.CircuitDag.{CircuitDag}
 use Rattle.graph.specs.Dag.{absent, size, hasEdge}
@@ -16,6 +16,7 @@ use Rattle.graph.specs.Soundness.{sound}
 use Rattle.graph.specs.Reach.{blocking}
 use Rattle.graph.proofs.BoolLaws.{bool-ext, not-true}
 use Rattle.graph.proofs.ListLaws.{member-marked, member-upTo, member-keep}
+use Rattle.graph.proofs.ReachLaws.{keep-same}
 use Rattle.insertion.specs.declared.Outcome.{Outcome}
 use Rattle.insertion.specs.declared.Outcome.the-variants.{Done, Refused as NotLoaded}
 use Rattle.insertion.specs.declared.Loaded.{Loaded}
@@ -37,18 +38,13 @@ use Rattle.report.specs.Lines.{inBlock, linesBy}
 use Rattle.report.specs.Text.{decimal, lineText, linesText, countText, blocksText, refusedText, loadedText, fileText, textOf}
 use Rattle.report.proofs.TextLaws.{digits-few, stored, then-text, stored-as}
 
-keep-below : (p q : ℕ → Bool) (m k : ℕ) → ((v : ℕ) → v < k + m → p v ≡ q v) → keep p (countFrom m k) ≡ keep q (countFrom m k)
-unfolding keep countFrom
-keep-below p q zero k h = refl
-keep-below p q (suc m) k h = (λ i. consIf (h k (omega arith) i) k (keep-below p q m (k + 1) (λ v l. h v (omega arith)) i))
-
 and-here : (a b : Bool) → b ≡ true → (a && b) ≡ a
 and-here true b h = h
 and-here false b h = refl
 
 -- a part of the nodes, told by its members
 kept-members : (p : ℕ → Bool) (n : ℕ) → keep p (upTo n) ≡ keep (λ v. member v (keep p (upTo n))) (upTo n)
-kept-members p n = keep-below p (λ v. member v (keep p (upTo n))) n 0
+kept-members p n = keep-same p (λ v. member v (keep p (upTo n))) n
     (λ v l. sym (member-keep p v (upTo n) ∙ and-here (p v) (member v (upTo n)) (member-upTo v n ∙ lt-ltb v n (omega arith))))
 
 eqb-swap : (a b : ℕ) → eqb a b ≡ eqb b a
@@ -79,7 +75,7 @@ module _ (g : CircuitDag) (s : sound g ≡ true) where
     I = next-iterated .whole g s (λ t. buffer) (λ t. room) buffer room
 
     block-numbered : (t : ℕ) → t < length (blocks g) → getD (blocks g) t [] ≡ inBlock numbers n t
-    block-numbered t h = nth-block g s t ∙ block-listed t ∙ keep-below (λ v. member v (blockOfStep g t)) (λ v. eqb (getD numbers v absent) t) n 0
+    block-numbered t h = nth-block g s t ∙ block-listed t ∙ keep-same (λ v. member v (blockOfStep g t)) (λ v. eqb (getD numbers v absent) t) n
         (λ v l. I .numbers t h v ∙ ap (λ (b : Bool). b && eqb t (getD numbers v absent)) (lt-ltb v n (omega arith)) ∙ eqb-swap t (getD numbers v absent))
 
     lines-same : (l : List (List ℕ)) (t : ℕ) → ((i : ℕ) → i < length l → getD l i [] ≡ inBlock numbers n (t + i)) → linesBy numbers n (length l) t ≡ linesText t l
