@@ -1,6 +1,6 @@
 //! The original and ours on the same inputs, in turns, by the thread's processor time; medians and ratios.
 use crate::circuits::{self, file_of, parts_of, Record};
-use crate::sawhekonu::{self, CircuitDag};
+use crate::sawhekonu::{self, CircuitDag, Walk};
 use crate::{given, plain};
 use std::hint::black_box;
 
@@ -305,17 +305,25 @@ fn worst(turns: usize) {
     let mut lines = Vec::new();
     let mut buffer = [0u16; 512];
     let mut layer = [0u16; 1024];
-    for (name, records) in [("512 gates on one qubit", circuits::chain(512)), ("33 x 8 x 8 layers", circuits::layers())] {
+    for (name, records) in [
+        ("512 gates on one qubit", circuits::chain(512)),
+        ("512 random two-qubit gates, both ends", circuits::random_both(512)),
+        ("33 x 8 x 8 layers", circuits::layers()),
+    ] {
         let c = case(&records);
         let mut orders = vec![("as built", c.ours)];
-        if c.n == 512 {
+        if name.starts_with("512 gates") {
             orders.push(("every other edge first", worst_order(&c.ours)));
             orders.push(("the same, with edges over 2 to 5 nodes behind them", with_shortcuts(&worst_order(&c.ours))));
-        } else {
+        } else if name.starts_with("33") {
             orders.push(("every other layer first", worst_layers(&c.ours)));
         }
         for (order, dag) in orders {
             assert!(dag.is_sound());
+            // All behind node 0 wait for it, through nodes that ran: the marks go the whole way along the edges.
+            let mut begun = Walk { current: [false; 512], executed: [true; 512] };
+            (begun.current[1], begun.executed[0]) = (true, false);
+            let mut block = [0u16; 512];
             let last = c.n as u16 - 1;
             let executed: Vec<u16> = Vec::new();
             let t = take_turns(
@@ -323,15 +331,17 @@ fn worst(turns: usize) {
                 &mut [
                     &mut || _ = black_box(black_box(&dag).is_sound()),
                     &mut || _ = black_box(black_box(&dag).whole_walk(&mut buffer)),
+                    &mut || _ = black_box(black_box(&dag).next(&begun, &mut block)),
                     &mut || _ = black_box(black_box(&dag).execution_blocked(&executed, last, &mut layer[..512])),
                 ],
             );
-            lines.push(format!("| {name} | {order} | {} | {:.2} | {:.2} | {:.2} |", dag.edges.count, t.median(0), t.median(1), t.median(2)));
+            let times: Vec<String> = (0..4).map(|k| format!("{:.2}", t.median(k))).collect();
+            lines.push(format!("| {name} | {order} | {} | {} |", dag.edges.count, times.join(" | ")));
         }
     }
     print_table(
         "Handed-in edge order",
-        "| row | order | edges | is_sound | whole_walk | execution_blocked of the last node |",
+        "| row | order | edges | is_sound | whole_walk | next, all but node 0 executed | execution_blocked of the last node |",
         &lines,
     );
 }
