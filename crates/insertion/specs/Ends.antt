@@ -33,6 +33,7 @@ pub record EndState : Type 0 where
 abbrev pub endState : List ℕ → EndState
 endState l = record { all = node (getD l 0 0); top = getD l 1 0; members = getD l 2 0 }
 
+-- the block has nodes, which are not kept
 abbrev pub several : ℕ
 several = 65534
 

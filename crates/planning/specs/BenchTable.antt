@@ -48,25 +48,31 @@ NameAll n = 0 ∷ 0 ∷ 0 ∷ 0 ∷ 0 ∷ 0 ∷ 0 ∷ 0 ∷ 0 ∷ 0 ∷ 0 ∷ 1 
 abbrev pub NameSet : ℕ → ℕ → List ℕ
 NameSet n i = 0 ∷ 0 ∷ 0 ∷ 0 ∷ 0 ∷ 0 ∷ 0 ∷ 0 ∷ 0 ∷ 0 ∷ 0 ∷ 3 ∷ 0 ∷ 0 ∷ 1 ∷ n ∷ i ∷ 0 ∷ []
 
--- the graphs of the cases
+-- case 2: "B{0} B{1} B{0,1}"
 abbrev pub case2 : CircuitDag
 case2 = final (B (0 ∷ []) ∷ B (1 ∷ []) ∷ B (0 ∷ 1 ∷ []) ∷ [])
 
+-- case 4: "B All, B{5}"
 abbrev pub case4 : CircuitDag
 case4 = final (BAll ∷ B (5 ∷ []) ∷ [])
 
+-- case 5: "B{0} B All B All F{3} B{3}", its records
 abbrev pub list5 : List (List ℕ)
 list5 = B (0 ∷ []) ∷ BAll ∷ BAll ∷ F (3 ∷ []) ∷ B (3 ∷ []) ∷ []
 
+-- .. and its graph
 abbrev pub case5 : CircuitDag
 case5 = final list5
 
+-- case 6: "B{} B All"
 abbrev pub case6 : CircuitDag
 case6 = final (B [] ∷ BAll ∷ [])
 
+-- case 7: "F{0} F{0}"
 abbrev pub case7 : CircuitDag
 case7 = final (F (0 ∷ []) ∷ F (0 ∷ []) ∷ [])
 
+-- case 10: "Bit name 1 length 2; Bit name 2 length 1; B None/All name 2", and what follows
 abbrev pub case10 : List (List ℕ) → CircuitDag
 case10 l = final (Bit 1 2 ∷ Bit 2 1 ∷ NameAll 2 ∷ l)
 
