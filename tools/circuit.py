@@ -77,9 +77,13 @@ def parse(text):
 
 
 def shown(r):
-    """One record, in the notation; its bytes where it breaks the rule of a length."""
-    if len(r) < 14:
-        return "bytes " + r.hex()
+    """One record, in the notation; its bytes where the notation does not give just these bytes, as where it breaks a rule."""
+    text = notation(r) if len(r) >= 14 else ""
+    m = RECORD.fullmatch(text)
+    return text if m and record(m) == r else "bytes " + r.hex()
+
+
+def notation(r):
     end, kind, form = "BF"[r[0] & 1], r[1], r[2]
     label = struct.unpack("<H", r[12:14])[0]
     if 1 <= kind <= 4 and len(r) == 17:

@@ -1,6 +1,7 @@
-// The library for C and Rust: each public call of the crates below under a C name. Graph, walk and answers cross by value as #[repr(C)] structs,
-// a slice as its pointer and length. The graph is the caller's own struct, so nodes, edges, maps, blocks, register maps and the commuting
-// list are read from its fields.
+// The library for C and Rust: load, insertion, soundness, conversions, queries, walk and chain under a C name. Graph, walk and answers cross by
+// value as #[repr(C)] structs, a slice as its pointer and length. The graph is the caller's own struct, so nodes, edges, maps, blocks, register
+// maps and the commuting list are read from its fields; a walk starts with all marks clear.
+// The caller sees to what C cannot say: each pointer has its length's elements, lent slices do not overlap, and a mark is 0 or 1.
 mod answers;
 mod chains;
 mod conversion;

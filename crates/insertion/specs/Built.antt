@@ -1,5 +1,5 @@
--- Lists of insertions on the empty graph: "For every list of record bytes on the empty graph, with no condition at all, each
--- graph on the way is sound (so refusal 11 never comes on it)." Each graph on the way is `final` of a first part of the list,
+-- Lists of insertions on the empty graph: for every list of record bytes, with no condition at all, each graph on the way is
+-- sound, so that refusal 11 never comes on it. Each graph on the way is `final` of a first part of the list,
 -- so one statement on every list covers them. Then a load against the list of its file's records. Assumes nothing.
 use mathlib.Core.Path.{_≡_}
 use mathlib.Core.Bool.{true}
@@ -49,7 +49,7 @@ atRecord i Unsound = Unsound
 abbrev pub stepOf : List ℕ → ℕ → Inserted
 stepOf s i = insertOf (final (take i (recordsOf s))) (recordAt s i)
 
--- "load is the list of insertions": where a load is accepted, its graph is the one after inserting its records one by one, and
+-- A load is the list of its insertions: where a load is accepted, its graph is the one after inserting its records one by one, and
 -- each of them is accepted; where a record is refused, the load gives that refusal with that record's number; and a file whose
 -- records are all accepted is loaded
 pub record LoadInserts (s : List ℕ) : Type 0 where

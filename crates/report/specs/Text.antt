@@ -30,7 +30,7 @@ unfoldable pub nodesText : List ℕ → List ℕ
 nodesText [] = []
 nodesText (v ∷ l) = 32 ∷ (decimal v ++ nodesText l)
 
--- "`0: 0 1`": the block number, a colon (58), the nodes; "every line ends with a newline" (10)
+-- "`0: 0 1`": the block number, a colon (58), the nodes; a newline (10) ends every line
 abbrev pub lineText : ℕ → List ℕ → List ℕ
 lineText k b = decimal k ++ (58 ∷ (nodesText b ++ (10 ∷ [])))
 
