@@ -7,7 +7,8 @@ use native.Mathlib.Omega.{arith}
 use native.Mathlib.Numerals.{add-one}
 use native.Mathlib.Decide.{ℕ-discrete}
 use lib.Dec.{ltb, eqb}
-use lib.ListN.{length, take, drop, getD, length-take, length-drop, List·getD-eq-default}
+use lib.ListN.{length, take, drop, getD, length-take, length-drop, drop-of-length-le, List·getD-eq-default}
+use lib.Seq.{take-all}
 use denote.Ref.{RefT, ptr, now}
 use borrow.Author.Tests.{eq-eqb, ne-eqb, eqb-true, ltb-true, ltb-false, lt-ltb, le-ltb}
 use Rattle.file.specs.Pairs.{numberAt, offsetOf, lengthOf, countOf, checkPairs, checkFile, placeFrom, locateRecord, Part, partOf, startOf, recordAt}
@@ -230,3 +231,17 @@ module _ (f r : RefT (List ℕ)) (i : ℕ) (b : ptr r .0 ≡ ptr f .0) where
 
   pub no-part : (x : Refusal) → locateRecord (now f) i ≡ NotThere x → now r ≡ [] → ptr r .1 ≡ 0 + ptr f .1 → Part f r i
   no-part x e h q = record { bytes = rw e h; block = b; start = rw e q }
+
+-- ---- The answers of `part_of`
+
+module _ (s : List ℕ) (i o m : ℕ) (so : o ≡ offsetOf s i) (sm : m ≡ lengthOf s i) where
+  pub part-past : length s ≤ o → [] ≡ recordAt s i
+  part-past h = rw (← so, drop-of-length-le s {i = o} h) (sym (take-all (lengthOf s i) [] (omega arith)))
+
+  pub part-cut : length s - o < m → take (length s - o) (drop o s) ≡ recordAt s i
+  part-cut h =
+      let l : length (drop o s) ≡ length s - o = length-drop o s in
+      rw (← so, ← sm) (take-all (length s - o) (drop o s) (omega (arith, l)) ∙ sym (take-all m (drop o s) (omega (arith, l, h))))
+
+  pub part-whole : take (o + m - o) (drop o s) ≡ recordAt s i
+  part-whole = let z : o + m - o ≡ m = omega arith in rw (z, ← so, ← sm) refl

@@ -164,36 +164,12 @@ module _ (s : List ℕ) (c k : ℕ) where
   unfolding Records.ascendFrom
   ascend-end l = let z : c - 1 - k ≡ 0 = omega arith in rw z refl
 
--- ---- The answers of `is_set`, `involved_classical` and `parse_record`
-
-some-tail : (a b d : Bool) (n m : ℕ) → 15 ≤ exactLength (cond a (All n) (cond b (AllQubits n) (cond d (Set n) (Definition n m))))
-some-tail true b d n m = omega arith
-some-tail false true d n m = omega arith
-some-tail false false true n m = omega arith
-some-tail false false false n m = omega arith
+-- ---- The answers of `is_set`, `register_key` and `parse_record`
 
 module _ (s : List ℕ) where
   pub set-short : length s < 15 → false ≡ Records.setRule s
   unfolding Records.setRule
   set-short l = rw (ne-eqb (length s) (15 + 3 * Records.count s) (omega arith)) refl
-
-  module _ (t : Records.tailRule s ≡ true) where
-    -- a record with a register form has its tail's first byte, and a definition all of its tail
-    pub named : 1 ≤ Records.registerForm s → 15 ≤ length s
-    unfolding Records.classicalOf
-    named n =
-        let e = rw (ne-eqb (Records.registerForm s) 0 (omega arith)) at (tail-length s t) in
-        omega (arith, e, some-tail (eqb (Records.registerForm s) 1) (eqb (Records.registerForm s) 2) (eqb (Records.registerForm s) 3) (Records.name s) (Records.size s))
-
-    pub defined : 4 ≤ Records.registerForm s → length s ≡ 17
-    unfolding Records.classicalOf
-    defined n =
-        rw (
-          ne-eqb (Records.registerForm s) 0 (omega arith),
-          ne-eqb (Records.registerForm s) 1 (omega arith),
-          ne-eqb (Records.registerForm s) 2 (omega arith),
-          ne-eqb (Records.registerForm s) 3 (omega arith),
-        ) at (tail-length s t)
 
   -- an entry that begins past the end
   pub no-entry : (k : ℕ) → length s ≤ 15 + 3 * k → record { name = 0; index = 0 } ≡ Records.keyAt s k

@@ -1,8 +1,8 @@
 // "Circuit file": the header, the pairs, and a record's part of the file.
 ghost use mathlib.Core.Path.{_≡_};
 ghost use Prim.Native.Nat.{_+_, _<_};
-ghost use lib.ListN.{length};
-ghost use Rattle.file.specs.Pairs.{numberAt, countOf, offsetOf, lengthOf, checkFile, locateRecord, Part};
+ghost use lib.ListN.{length, getD};
+ghost use Rattle.file.specs.Pairs.{numberAt, countOf, offsetOf, lengthOf, checkFile, locateRecord, Part, recordAt};
 use crate::FileCheck;
 use crate::Place;
 use crate::RecordPart;
@@ -34,6 +34,13 @@ pub(crate) fn field_at(s: &[u8], at: usize) -> usize
         return wide(s[at]);
     }
     read_u16(s, at)
+}
+
+// The byte at a place, 0 past the end.
+pub(crate) fn byte_at(s: &[u8], at: usize) -> u8
+    ensures { λ r. ⌜ r ≡ getD (now (s .entry)) at 0 ⌝ }
+{
+    if at < s.len() { s[at] } else { 0 }
 }
 
 // The header's record count, of any bytes.
@@ -129,6 +136,22 @@ pub fn record_at(file: &[u8], i: usize) -> &[u8]
     match place {
         Place::At { offset, length } => &file[offset..offset + length],
         Place::Refused(_) => &file[0..0],
+    }
+}
+
+// The part of the file that pair i gives, of any bytes and any i, no copy: what lies past the file's end is left out.
+pub fn part_of(file: &[u8], i: usize) -> &[u8]
+    ensures { λ r. ⌜ now r ≡ recordAt (now (file .entry)) i ⌝ }
+{
+    let size = file.len();
+    let offset = pair_offset(file, i);
+    let length = pair_length(file, i);
+    if size <= offset {
+        &file[0..0]
+    } else if size - offset < length {
+        &file[offset..size]
+    } else {
+        &file[offset..offset + length]
     }
 }
 

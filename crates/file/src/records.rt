@@ -12,6 +12,7 @@ use crate::Parsed;
 use crate::Record;
 use crate::Refusal;
 use crate::RegisterKey;
+use crate::pairs::byte_at;
 use crate::pairs::field_at;
 use crate::pairs::read_u16;
 use crate::pairs::wide;
@@ -138,18 +139,20 @@ fn involved_qubits(form: u8, mask: u64) -> InvolvedQubits
     }
 }
 
-// The registers of a record whose form fits its tail.
-fn involved_classical(s: &[u8]) -> InvolvedClassical
-    requires { ⌜ (14 ≤ length (now s)) × (tailRule (now s) ≡ true) ⌝ }
-    ensures { λ r. ⌜ r ≡ classicalOf (now (s .entry)) ⌝ }
+// The registers that a record involves, of any bytes: a byte past the end counts as 0.
+pub fn involved_classical(part: &[u8]) -> InvolvedClassical
+    ensures { λ r. ⌜ r ≡ classicalOf (now (part .entry)) ⌝ }
 {
-    let form = s[11];
+    if part.len() < 12 {
+        return InvolvedClassical::None;
+    }
+    let form = part[11];
     match form {
         0 => InvolvedClassical::None,
-        1 => InvolvedClassical::All(s[14]),
-        2 => InvolvedClassical::AllQubits(s[14]),
-        3 => InvolvedClassical::Set(s[14]),
-        _ => InvolvedClassical::Definition(s[14], read_u16(s, 15) as u16),
+        1 => InvolvedClassical::All(byte_at(part, 14)),
+        2 => InvolvedClassical::AllQubits(byte_at(part, 14)),
+        3 => InvolvedClassical::Set(byte_at(part, 14)),
+        _ => InvolvedClassical::Definition(byte_at(part, 14), field_at(part, 15) as u16),
     }
 }
 

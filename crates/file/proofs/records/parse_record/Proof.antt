@@ -1,7 +1,6 @@
 -- `file::records::parse_record` meets its contract. Assumes nothing.
 use Rattle.file.proofs.RecordLaws.{too-short, bad-end, bad-kind, bad-qubits, bad-tail, good, was-true, was-false}
-use mathlib.Core.Path.{_≡_, refl, sym, _∙_, ap}
-use native.Mathlib.Omega.{arith}
+use mathlib.Core.Path.{sym, _∙_}
 use borrow.Author.Needs.{needs}
 use Rattle.file.proofs.records.parse_record.Statement.{statement}
 use Rattle.file.proofs.records.parse_record.Tie as tie
@@ -55,7 +54,7 @@ involved-qubits-requires : tie.Need-involved-qubits-requires
 involved-qubits-requires c κs = search needs
 
 involved-classical-requires : tie.Need-involved-classical-requires
-involved-classical-requires c κs = (omega (arith, c .before .before .before .before .before .before .before .before .before .before .before .before .before .before .if1 .left), sym (c .before .before .before .tail-fits .ensures) ∙ was-true _ (c .before .before .if5 .left))
+involved-classical-requires c κs = search needs
 
 returns-6 : tie.Need-returns-6
 returns-6 c = good _ (c .before .before .before .before .before .before .before .before .before .before .before .before .before .before .before .if1 .left) (c .before .before .before .before .before .before .before .before .before .before .before .before .before .if2 .left) _ (c .before .before .before .before .before .before .before .read-mask .ensures) (sym (c .before .before .before .before .before .before .before .before .before .kind-fits .ensures) ∙ was-true _ (c .before .before .before .before .before .before .before .before .if3 .left)) (sym (c .before .before .before .before .before .before .qubits-fit .ensures) ∙ was-true _ (c .before .before .before .before .before .if4 .left)) _ _ _ (sym (c .before .before .before .before .tail-fits .ensures) ∙ was-true _ (c .before .before .before .if5 .left)) (c .before .involved-qubits .ensures) (c .involved-classical .ensures) (c .before .before .read-u16 .ensures .0)
