@@ -71,6 +71,11 @@ commutingAscends g = ascends (commutingOf g)
 abbrev pub keysDistinct : Registers → Bool
 keysDistinct r = distinct sameKey (entriesOf r)
 
+-- the clauses on one register map, of a graph with n nodes: "256 entries in each register map", distinct keys, "every stored node number is below
+-- the node count"
+abbrev pub registerMapRule : ℕ → Registers → Bool
+registerMapRule n r = leb (r .count) 256 && (keysDistinct r && allOf (λ (x : Entry). ltb (x .node) n) (entriesOf r))
+
 -- "edges are distinct, join qubit operations and run from a smaller to a larger place"
 abbrev pub edgesRule : CircuitDag → Bool
 edgesRule g = distinct sameEdge (edgesOf g)

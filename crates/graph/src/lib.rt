@@ -11,6 +11,7 @@ pub use queries::blocking_predecessors;
 pub use queries::execution_blocked;
 pub use queries::new_front_layer;
 pub use queries::successors;
+pub use soundness::is_register_map;
 pub use soundness::is_sound;
 ghost use mathlib.Core.Path.{_≡_};
 ghost use Rattle.graph.specs.Dag.{noEnd, noRegisters, empty};

@@ -9,7 +9,7 @@ ghost use lib.Signed.{mag, nonNeg, ltZ};
 ghost use lib.ListN.{length, getD, take, replicate};
 ghost use Rattle.file.specs.Lists.{anyOf, allOf, distinct, upTo, members};
 ghost use Rattle.graph.specs.Dag.{Edge, Entry, edgeAt, entryAt, entry, sameEdge, sameKey};
-ghost use Rattle.graph.specs.Soundness.{named, ifPresent, samePlace, ascends, keysDistinct, sound};
+ghost use Rattle.graph.specs.Soundness.{named, ifPresent, samePlace, ascends, keysDistinct, registerMapRule, sound};
 use crate::CircuitDag;
 use crate::Commuting;
 use crate::Edges;
@@ -392,6 +392,16 @@ fn registers_fit(r: Registers, n: usize) -> bool
         i += 1;
     }
     true
+}
+
+// A register map that a sound graph of n nodes may have.
+pub fn is_register_map(r: Registers, n: usize) -> bool
+    ensures { λ res. ⌜ res ≡ registerMapRule n r ⌝ }
+{
+    if 256 < r.count {
+        return false;
+    }
+    registers_fit(r, n)
 }
 
 // Both ends fit, and the first block starts the circuit.
