@@ -24,14 +24,16 @@ use Rattle.graph.proofs.BoolLaws.{clash-bool}
 use Rattle.graph.proofs.SoundnessLaws.{NamesFit, RegistersFit, registers-told, told-sound}
 use Rattle.insertion.specs.declared.Answer.the-variants.{Node, Refused}
 use Rattle.insertion.specs.declared.Inserted.{Inserted}
-use Rattle.insertion.specs.Insertion.{Linked, nearAll, facing, link, placeAfter, linked, registered, commutes, withEdges, withCommuting, withEntries, grown}
-use Rattle.insertion.specs.Registers.{Maps}
+use Rattle.links.specs.Links.{Linked, nearAll, link, withEdges}
+use Rattle.registers.specs.Registers.{withEntries}
+use Rattle.insertion.specs.Insertion.{facing, placeAfter, linked, registered, commutes, withCommuting, grown}
+use Rattle.registers.specs.Registers.{Maps}
 use Rattle.insertion.specs.Limits.{refused, edgesPass, registersPass, insertAs, insertOf}
 use Rattle.insertion.specs.Calls.{graphAfter, final}
 use Rattle.insertion.specs.Built.{SoundBuilt}
-use Rattle.insertion.proofs.LinkLaws.{others-distinct}
-use Rattle.insertion.proofs.RegisterLists.{or-l, or-r}
-use Rattle.insertion.proofs.RegisterLaws.{fits-none}
+use Rattle.links.proofs.LinkLaws.{others-distinct}
+use Rattle.registers.proofs.RegisterLists.{or-l, or-r}
+use Rattle.registers.proofs.RegisterLaws.{fits-none}
 use Rattle.insertion.proofs.SafeEnds.{all-same, Side, Joins, named-old, near-side, far-side, joins-by}
 use Rattle.insertion.proofs.SafeEdges.{between, lies, link-rises, EdgesSafe, Meets, meets-below, near-meets, far-meets, edges-more}
 use Rattle.insertion.proofs.SafeNodes.{operates, record-operates, NodesSafe, moreNodes, operatesAt, placeAt, operates-same, operates-here, place-same, place-here, nodes-more, CommutingSafe, commuting-more, RegistersSafe, registers-more}

@@ -27,7 +27,8 @@ use Rattle.insertion.specs.declared.Answer.the-variants.{Node, Refused}
 use Rattle.insertion.specs.declared.Inserted.{Inserted}
 use Rattle.insertion.specs.declared.Outcome.the-variants.{Done}
 use Rattle.insertion.specs.declared.Loaded.{Loaded}
-use Rattle.insertion.specs.Insertion.{nearAll, grown}
+use Rattle.links.specs.Links.{nearAll}
+use Rattle.insertion.specs.Insertion.{grown}
 use Rattle.insertion.specs.Limits.{accepts, insertAs, insertOf, refused, edgesPass, registersPass}
 use Rattle.insertion.specs.Load.{notLoaded, insertRecords, loadChecked, load}
 use Rattle.insertion.specs.Calls.{graphAfter, final}

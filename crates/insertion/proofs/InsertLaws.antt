@@ -1,45 +1,37 @@
--- A single insertion: a sound graph may be taken apart and lent, and what comes back is the rule's answer. Assumes nothing.
-use mathlib.Core.Path.{_≡_, refl, sym, _∙_, ap, subst}
-use mathlib.Core.Bool.{Bool, true, false, cond, not}
-use mathlib.Core.List.{List}
+-- A single insertion: the parts of a sound graph may be handed over, and what comes back is the rule's answer. Assumes nothing.
+use mathlib.Core.Path.{_≡_, refl, sym, _∙_, ap}
+use mathlib.Core.Bool.{Bool, true, false, cond, not, _&&_}
+use mathlib.Core.List.{List, _++_}
 use Prim.Native.Nat.{ℕ, zero, suc, _+_, _≤_, _<_}
 use native.Mathlib.Omega.{arith}
-use native.Mathlib.Decide.{ℕ-discrete}
-use lib.Dec.{leb}
-use lib.ListN.{length, getD, List·getD-eq-default}
-use Rattle.file.specs.Lists.{anyOf}
+use lib.Dec.{leb, ltb}
+use lib.ListN.{getD}
+use borrow.Author.Tests.{le-leb, leb-false}
+use Rattle.file.specs.Lists.{allOf, members}
+use Rattle.file.specs.Records.{front, recordRule, qubitsOf, recordOf}
+use Rattle.file.specs.declared.Record.{Record}
 use Rattle.file.specs.declared.Refusal.{Refusal}
-use Rattle.file.specs.declared.Refusal.the-variants.{Unsound, BadRecord, TooManyNodes, TooManyEdges, TooManyRegisters}
-use Rattle.file.specs.Records.{recordRule}
+use Rattle.file.specs.declared.Refusal.the-variants.{Unsound, TooManyNodes, TooManyEdges, TooManyRegisters}
 use Rattle.graph.specs.declared.NodeIndex.{NodeIndex}
-use Rattle.graph.specs.declared.End.{End}
 use Rattle.graph.specs.declared.CircuitDag.{CircuitDag}
-use Rattle.graph.specs.Dag.{absent, present, node, size}
-use Rattle.graph.specs.Soundness.{sound}
-use Rattle.graph.proofs.ListLaws.{at-any, at-none}
-use Rattle.graph.proofs.SizeLaws.{EndSized, RegistersSized, DagSized}
-use Rattle.graph.proofs.SoundnessLaws.{Sound, Clauses, NamesFit, sound-told, sound-clauses}
-use Rattle.insertion.specs.declared.Answer.{Answer}
-use Rattle.insertion.specs.declared.Answer.the-variants.{Node, Refused}
+use Rattle.graph.specs.Dag.{Edge, Entry, node, size, edgesOf, commutingOf, entriesOf}
+use Rattle.graph.specs.Soundness.{sound, named, ifPresent, registerMapRule}
+use Rattle.graph.proofs.BoolLaws.{and-l, and-r}
+use Rattle.graph.proofs.SizeLaws.{DagSized}
+use Rattle.graph.proofs.SoundnessLaws.{Sound, sound-told, sound-clauses, all-left, all-right}
+use Rattle.links.specs.declared.LinkAnswer.the-variants.{Done as Linked-all, Refused as Not-linked}
+use Rattle.links.specs.declared.LinkedRecords.{LinkedRecords}
+use Rattle.links.specs.Links.{nearAll}
+use Rattle.links.specs.Linking.{linksFit, linksStopped, linkRecord, linkNode}
+use Rattle.registers.specs.declared.Registered.{Registered}
+use Rattle.registers.specs.Registers.{mapsAfter, mapsPass, stored, registerRecord}
+use Rattle.insertion.specs.declared.Answer.the-variants.{Node}
 use Rattle.insertion.specs.declared.Inserted.{Inserted}
-use Rattle.insertion.specs.Insertion.{nearAll, grown}
-use Rattle.insertion.specs.Limits.{accepts, insertAs, insertOf, refused, edgesPass, registersPass}
-use Rattle.insertion.specs.Ends.{endState, several, EndFits}
-use Rattle.insertion.specs.RegisterMaps.{Fits, registers}
-use Rattle.insertion.specs.Arrays.{GraphState, countsOf, stateWith, graphState, Arrays, arraysOf, countsIn, endStateOf, stateOf, dagOf, StateFits, RecordInserted, Grows}
-
--- ---- `has_node`
-
-pub found-node : (block : List Bool) (v : ℕ) → length block ≡ 512 → v < 512 → getD block v false ≡ true → true ≡ anyOf (λ b. b) block
-found-node block v e l h = sym (at-any (λ b. b) block false v (omega arith) h)
-
-pub no-node : (block : List Bool) → length block ≡ 512 → ((i : ℕ) → i < 512 → getD block i false ≡ false) → false ≡ anyOf (λ b. b) block
-no-node block e f = sym (at-none (λ b. b) block false (λ i l. f i (omega arith)))
-
-pub one-further : (block : List Bool) (v : ℕ) → ((i : ℕ) → i < v → getD block i false ≡ false) → getD block v false ≡ false → (i : ℕ) → i < v + 1 → getD block i false ≡ false
-one-further block v f h i l = elim (ℕ-discrete i v) [ yes e ↦ rw e h | no e ↦ f i (omega arith) ]
-
--- ---- a sound graph may be lent
+use Rattle.insertion.specs.declared.nodes.NodeLists.{NodeLists}
+use Rattle.insertion.specs.Insertion.{commutes, grown}
+use Rattle.insertion.specs.Limits.{refused, edgesPass, registersPass, insertAs, insertOf}
+use Rattle.insertion.specs.Parts.{nodeLists, nodeAfter, assembled}
+use Rattle.insertion.proofs.PartLaws.{linksOf, registersOf, not-both, full, over, many, grows, links-full, links-over, links-grown, maps-pass, registers-at, nodes-at}
 
 -- m numbers below n that rise are no more than n
 rising : (f : ℕ → ℕ) (m : ℕ) → ((i j : ℕ) → i < j → j < m → f i < f j) → (i : ℕ) → i < m → i ≤ f i
@@ -50,80 +42,162 @@ rising-few : (f : ℕ → ℕ) (m n : ℕ) → ((i j : ℕ) → i < j → j < m 
 rising-few f zero n up low = omega arith
 rising-few f (suc m) n up low = let h = rising f (suc m) up m (omega arith) in omega (arith, h, low m (omega arith))
 
-end-fits : (g : CircuitDag) (e : End) → EndSized e → NamesFit g e → EndFits (size g) (e .node) (endStateOf e) (e .block)
-end-fits g e z f = record {
-  nodes = z .node;
-  blocks = z .block;
-  entries = f .node-below;
-  all = f .all-below;
-  low = omega arith;
-  top = λ q l. List·getD-eq-default (e .node) absent (omega (arith, z .node));
-  some = some (anyOf (λ b. b) (e .block));
-  only = λ h. absurd (large (anyOf (λ b. b) (e .block)) h);
-}
-  where
-    some : (b : Bool) → present (cond b several absent) ≡ b
-    some true = refl
-    some false = refl
+-- ---- what the parts ask
 
-    large : (b : Bool) → cond b several absent < 512 → ⊥
-    large true h = omega arith
-    large false h = omega arith
+module _ (g : CircuitDag) (h : sound g ≡ true) where
+  abbrev below : ℕ → Bool
+  below v = ltb v (size g)
 
-sound-fits : (g : CircuitDag) → DagSized g → sound g ≡ true → StateFits (stateOf g) (arraysOf g)
-sound-fits g z h =
-    let s = sound-told g (z .commuting .list) h in
-    let k = sound-clauses g h in
-    record {
-      nodes = s .node-count;
-      ends = s .ends;
-      edges = s .edge-count;
-      from = z .edges .from;
-      to = z .edges .to;
-      first = end-fits g (g .first) (z .first) (s .first-names);
-      last = end-fits g (g .last) (z .last) (s .last-names);
-      first-registers = record { room = s .first-count; keys = k .first-keys; sized = record { name = z .first-registers .name; index = z .first-registers .index; node = z .first-registers .node } };
-      last-registers = record { room = s .last-count; keys = k .last-keys; sized = record { name = z .last-registers .name; index = z .last-registers .index; node = z .last-registers .node } };
-      commuting = rising-few (λ i. getD (g .commuting .list) i 0) (g .commuting .count) (size g) (s .commuting-ascends) (s .commuting-below);
-    }
+  abbrev ofEdges : Bool
+  ofEdges = allOf (λ (e : Edge). below (e .from) && below (e .to)) (edgesOf g)
 
--- the lent numbers are the graph's
-module _ (g : CircuitDag) (n first last : List ℕ) (en : countsOf n ≡ countsIn g) (ef : endState first ≡ endStateOf (g .first)) (el : endState last ≡ endStateOf (g .last)) where
-  lent : graphState (countsOf n) first last ≡ stateOf g
-  lent = λ j. stateWith (en j) (ef j) (el j)
+  abbrev ofEnds : Bool
+  ofEnds = allOf (ifPresent below) (named (g .first) ++ named (g .last))
 
-  pub lent-fits : DagSized g → sound g ≡ true → StateFits (graphState (countsOf n) first last) (arraysOf g)
-  lent-fits z h = subst (λ (s : GraphState). StateFits s (arraysOf g)) (sym lent) (sound-fits g z h)
+  abbrev ofLists : Bool
+  ofLists = allOf below (members (g .first .block) ++ members (g .last .block) ++ commutingOf g)
 
-  pub lent-grows : (i : ℕ) (bytes : List ℕ) (r : RecordInserted) (a : Arrays) → Grows i bytes (dagOf (graphState (countsOf n) first last) (arraysOf g)) r a → Grows i bytes g r a
-  lent-grows i bytes r a = subst (λ (s : GraphState). Grows i bytes (dagOf s (arraysOf g)) r a) lent
+  abbrev ofMaps : Bool
+  ofMaps = allOf (λ (x : Entry). below (x .node)) (entriesOf (g .«first_registers») ++ entriesOf (g .«last_registers»))
+
+  numbers : (ofEdges && ofEnds && ofLists && ofMaps) ≡ true
+  numbers = sound-clauses g h .numbers
+
+  ends-below : ofEnds ≡ true
+  ends-below = and-r ofEdges ofEnds (and-l (ofEdges && ofEnds) ofLists (and-l (ofEdges && ofEnds && ofLists) ofMaps numbers))
+
+  maps-below : ofMaps ≡ true
+  maps-below = and-r (ofEdges && ofEnds && ofLists) ofMaps numbers
+
+  module _ (z : DagSized g) where
+    s : Sound g
+    s = sound-told g (z .commuting .list) h
+
+    pub links-fit : linksFit (size g) (g .edges) (g .first) (g .last) ≡ true
+    links-fit = rw (le-leb (g .edges .count) 2048 (s .edge-count), all-left (ifPresent below) (named (g .first)) (named (g .last)) ends-below, all-right (ifPresent below) (named (g .first)) (named (g .last)) ends-below) refl
+
+    pub first-map : registerMapRule (size g) (g .«first_registers») ≡ true
+    first-map = rw (le-leb (g .«first_registers» .count) 256 (s .first-count), sound-clauses g h .first-keys, all-left (λ (x : Entry). below (x .node)) (entriesOf (g .«first_registers»)) (entriesOf (g .«last_registers»)) maps-below) refl
+
+    pub last-map : registerMapRule (size g) (g .«last_registers») ≡ true
+    last-map = rw (le-leb (g .«last_registers» .count) 256 (s .last-count), sound-clauses g h .last-keys, all-right (λ (x : Entry). below (x .node)) (entriesOf (g .«first_registers»)) (entriesOf (g .«last_registers»)) maps-below) refl
+
+    pub commuting-few : g .commuting .count ≤ size g
+    commuting-few = rising-few (λ i. getD (g .commuting .list) i 0) (g .commuting .count) (size g) (s .commuting-ascends) (s .commuting-below)
+
+    pub ends-sum : g .backs + g .fronts ≡ size g
+    ends-sum = s .ends
+
+    pub few-nodes : size g ≤ 512
+    few-nodes = s .node-count
 
 -- ---- the answer
 
-same-inserted : {a b : Answer} {g h : CircuitDag} → a ≡ b → g ≡ h → _≡_ {A = Inserted} (record { answer = a; graph = g }) (record { answer = b; graph = h })
-same-inserted p q = λ i. record { answer = p i; graph = q i }
+module _ (g : CircuitDag) (b : List ℕ) (keeps : recordRule b ≡ true) where
+  abbrev pub once : LinkedRecords
+  once = linkRecord 0 (front b) (qubitsOf b) (linksOf g)
 
--- a refusal of the rule leaves the graph
-told : (a b c d : Bool) (p q r s x : Refusal) (v : NodeIndex) (g h : CircuitDag)
-    → cond a (refused p g) (cond b (refused q g) (cond c (refused r g) (cond d (refused s g) (record { answer = Node v; graph = h })))) .answer ≡ Refused x
-    → cond a (refused p g) (cond b (refused q g) (cond c (refused r g) (cond d (refused s g) (record { answer = Node v; graph = h })))) ≡ refused x g
-told true b c d p q r s x v g h e = same-inserted e refl
-told false true c d p q r s x v g h e = same-inserted e refl
-told false false true d p q r s x v g h e = same-inserted e refl
-told false false false true p q r s x v g h e = same-inserted e refl
-told false false false false p q r s x v g h e = let z : _≡_ {A = ℕ} 0 1 = cc in absurd (omega arith)
+  -- a refusal by the links
+  pub link-refused : (c : Refusal) → once .answer ≡ Not-linked c → refused c g ≡ insertAs nearAll 0 g b
+  link-refused c e = by-limits (leb 512 (size g)) (edgesPass nearAll g b) refl refl
+    where
+      same : (d : Refusal) → once ≡ linksStopped (size g) d → insertAs nearAll 0 g b ≡ refused d g → refused c g ≡ insertAs nearAll 0 g b
+      same d q i = let w : Not-linked d ≡ Not-linked c = rw q at e in let y : d ≡ c = cc in ap (λ (x : Refusal). refused x g) (sym y) ∙ sym i
 
-module _ (i : ℕ) (bytes : List ℕ) (g : CircuitDag) where
-  refused-graph : (x : Refusal) → insertAs nearAll i g bytes .answer ≡ Refused x → insertAs nearAll i g bytes ≡ refused x g
-  unfolding insertAs
-  refused-graph x e = told (not (recordRule bytes)) (leb 512 (size g)) (edgesPass nearAll g bytes) (registersPass g bytes) (BadRecord i) TooManyNodes (TooManyEdges i) (TooManyRegisters i) x (node (size g)) g (grown nearAll g bytes) e
+      by-limits : (p q : Bool) → leb 512 (size g) ≡ p → edgesPass nearAll g b ≡ q → refused c g ≡ insertAs nearAll 0 g b
+      by-limits true q l m = same TooManyNodes (links-full 0 g b l) (full 0 g b keeps l)
+      by-limits false true l m = same (TooManyEdges 0) (links-over 0 g b keeps l m) (over 0 g b keeps l m)
+      by-limits false false l m = not-both c (sym (ap (λ (x : LinkedRecords). x .answer) (links-grown 0 g b keeps l m)) ∙ e)
 
-  module _ (r : RecordInserted) (a : Arrays) (grows : Grows i bytes g r a) where
-    pub stays : (x : Refusal) → r .answer ≡ Refused x → refused x g ≡ insertAs nearAll i g bytes
-    stays x e = sym (refused-graph x (sym (grows .answer) ∙ e))
+  -- the links accept: there is a free node, and room for the edges
+  module _ (done : once .answer ≡ Linked-all) where
+    pub free : leb 512 (size g) ≡ false
+    free = by-limit (leb 512 (size g)) refl
+      where
+        by-limit : (p : Bool) → leb 512 (size g) ≡ p → p ≡ false
+        by-limit false l = refl
+        by-limit true l = not-both TooManyNodes (sym done ∙ ap (λ (x : LinkedRecords). x .answer) (links-full 0 g b l))
 
-    pub becomes : (v : NodeIndex) (h : CircuitDag) → r .answer ≡ Node v → h ≡ dagOf (r .state) a → record { answer = r .answer; graph = h } ≡ insertAs nearAll i g bytes
-    becomes v h e q = same-inserted (grows .answer) (q ∙ grows .graph (ap accepts e))
+    room : edgesPass nearAll g b ≡ false
+    room = by-limit (edgesPass nearAll g b) refl
+      where
+        by-limit : (q : Bool) → edgesPass nearAll g b ≡ q → q ≡ false
+        by-limit false m = refl
+        by-limit true m = not-both (TooManyEdges 0) (sym done ∙ ap (λ (x : LinkedRecords). x .answer) (links-over 0 g b keeps free m))
+
+    pub free-node : size g < 512
+    free-node = leb-false 512 (size g) free
+
+    module _ (first : registerMapRule (size g) (g .«first_registers») ≡ true) (last : registerMapRule (size g) (g .«last_registers») ≡ true) (v : NodeIndex) (is : v .0 ≡ size g) where
+      abbrev maps : Registered
+      maps = registerRecord (g .«first_registers») (g .«last_registers») b v
+
+      abbrev passing : Bool
+      passing = mapsPass (mapsAfter b (size g) (g .«first_registers») (g .«last_registers»))
+
+      abbrev after : CircuitDag
+      after = grown nearAll g b
+
+      abbrev new : Registered
+      new = stored (front b) 1 (g .«first_registers») (g .«last_registers») (mapsAfter b (size g) (g .«first_registers») (g .«last_registers»))
+
+      maps-by : (p : Bool) → passing ≡ p → maps ≡ cond (not p) new (record { accepted = 0; first = g .«first_registers»; last = g .«last_registers» })
+      unfolding registerRecord
+      maps-by p e = rw (is, first, last, e) refl
+
+      pub too-many : maps .accepted ≡ 0 → refused (TooManyRegisters 0) g ≡ insertAs nearAll 0 g b
+      too-many z = by-pass passing refl
+        where
+          by-pass : (p : Bool) → passing ≡ p → refused (TooManyRegisters 0) g ≡ insertAs nearAll 0 g b
+          by-pass true e = sym (many 0 g b keeps free room (maps-pass 0 g b ∙ e))
+          by-pass false e = let q : _≡_ {A = ℕ} 1 0 = sym (ap (λ (x : Registered). x .accepted) (maps-by false e)) ∙ z in absurd (omega arith)
+
+      pub inserted : (maps .accepted ≡ 0 → ⊥) → record { answer = Node v; graph = assembled (nodeAfter b (nodeLists g)) once maps } ≡ insertAs nearAll 0 g b
+      inserted z = by-pass passing refl
+        where
+          by-pass : (p : Bool) → passing ≡ p → record { answer = Node v; graph = assembled (nodeAfter b (nodeLists g)) once maps } ≡ insertAs nearAll 0 g b
+          by-pass true e = absurd (z (ap (λ (x : Registered). x .accepted) (maps-by true e)))
+          by-pass false e =
+              let d = grows 0 g b keeps free room (maps-pass 0 g b ∙ e) in
+              let n = nodes-at g b (front b) (commutes b) refl refl in
+              let r = maps-by false e in
+              let q = registers-at g b (front b) refl in
+              let w : v ≡ node (size g) = λ j. record { 0 = is j } in
+              let x = links-grown 0 g b keeps free room in
+              let here : _≡_ {A = Inserted} (record { answer = Node v; graph = assembled (nodeAfter b (nodeLists g)) once maps }) (record { answer = Node (node (size g)); graph = assembled (nodeLists after) (linksOf after) new }) = λ j. record { answer = Node (w j); graph = assembled (n j) (x j) (r j) } in
+              let there : _≡_ {A = Inserted} (record { answer = Node (node (size g)); graph = assembled (nodeLists after) (linksOf after) new }) (record { answer = Node (node (size g)); graph = after }) = λ j. record { answer = Node (node (size g)); graph = assembled (nodeLists after) (linksOf after) (q j) } in
+              here ∙ there ∙ sym d
+
+-- ---- `insert_sound`
+
+module _ (g : CircuitDag) (h : sound g ≡ true) (z : DagSized g) (b : List ℕ) (keeps : recordRule b ≡ true) where
+  -- what the links of the parsed record are
+  pub linked-once : (s : Record) (x : LinkedRecords) → s ≡ recordOf b → x ≡ linkNode (s .front) (s .qubits) (node (size g)) (g .edges) (g .first) (g .last) → x ≡ once g b keeps
+  unfolding linkNode
+  linked-once s x is e = rw (e, is, links-fit g h z) refl
+
+  module _ (x : LinkedRecords) (ex : x ≡ once g b keeps) where
+    pub stays : (c : Refusal) → x .answer ≡ Not-linked c → refused c g ≡ insertAs nearAll 0 g b
+    stays c e = link-refused g b keeps c (sym (ap (λ (y : LinkedRecords). y .answer) ex) ∙ e)
+
+    module _ (done : x .answer ≡ Linked-all) where
+      all : once g b keeps .answer ≡ Linked-all
+      all = sym (ap (λ (y : LinkedRecords). y .answer) ex) ∙ done
+
+      pub lists-fit : (n : NodeLists) → n ≡ nodeLists g → (n .nodes .count < 512) × (n .commuting .count < 512) × (n .backs < 512) × (n .fronts < 512)
+      lists-fit n e =
+          let f = free-node g b keeps all in
+          rw e (f, omega (arith, f, commuting-few g h z), omega (arith, f, ends-sum g h z), omega (arith, f, ends-sum g h z))
+
+      module _ (r : Registered) (er : r ≡ registerRecord (g .«first_registers») (g .«last_registers») b (node (size g))) where
+        pub passes : r .accepted ≡ 0 → refused (TooManyRegisters 0) g ≡ insertAs nearAll 0 g b
+        passes e = too-many g b keeps all (first-map g h z) (last-map g h z) (node (size g)) refl (sym (ap (λ (y : Registered). y .accepted) er) ∙ e)
+
+        pub grown-is : (r .accepted ≡ 0 → ⊥) → (l n : NodeLists) → l ≡ nodeLists g → n ≡ nodeAfter b l → (a : CircuitDag) → a ≡ assembled n x r → record { answer = Node (node (size g)); graph = a } ≡ insertAs nearAll 0 g b
+        grown-is e l n el en a ea =
+            let i = inserted g b keeps all (first-map g h z) (last-map g h z) (node (size g)) refl (λ y. e (ap (λ (q : Registered). q .accepted) er ∙ y)) in
+            let p : a ≡ assembled (nodeAfter b (nodeLists g)) (once g b keeps) (registerRecord (g .«first_registers») (g .«last_registers») b (node (size g))) = ea ∙ (λ j. assembled (en j) (ex j) (er j)) ∙ ap (λ (y : NodeLists). assembled (nodeAfter b y) (once g b keeps) (registerRecord (g .«first_registers») (g .«last_registers») b (node (size g)))) el in
+            ap (λ (y : CircuitDag). record { answer = Node (node (size g)); graph = y }) p ∙ i
 
 pub sound-inserts : (g : CircuitDag) (bytes : List ℕ) → sound g ≡ true → insertAs nearAll 0 g bytes ≡ insertOf g bytes
 unfolding insertOf

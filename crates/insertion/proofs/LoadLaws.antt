@@ -1,103 +1,120 @@
--- A load: the records that are left, inserted one by one into the graph that the arrays hold, give what the whole file gives.
--- Assumes nothing.
-use mathlib.Core.Path.{_≡_, refl, sym, _∙_, ap, subst}
-use mathlib.Core.Bool.{Bool, true, false}
-use mathlib.Core.List.{List, [], _∷_, _++_}
-use Prim.Native.Nat.{ℕ, zero, suc, _+_, _*_, _-_, _≤_, _<_}
+-- A load: what its parts make is what its records make, inserted one by one. Assumes nothing.
+use mathlib.Core.Path.{_≡_, refl, sym, _∙_, ap}
+use mathlib.Core.Bool.{Bool, true, false, cond, not}
+use mathlib.Core.List.{List, [], _∷_, _++_, map}
+use Prim.Native.Nat.{ℕ, zero, suc, _+_, _-_, _≤_, _<_}
 use native.Mathlib.Omega.{arith}
 use native.Mathlib.Numerals.{add-one}
-use lib.IntN.{ℤ, pos}
-use lib.ListN.{length, take, drop, getD, set, replicate, length-replicate, length-take, length-set, drop-of-length-le}
-use lib.Seq.{drop-cons, getD-take, take-suc-set, take-length}
+use lib.Dec.{ltb, leb}
+use lib.ListN.{length, take, drop, getD, set, replicate, length-replicate, length-set}
+use lib.Seq.{take-suc-set, take-length}
 use Rattle.file.specs.Lists.{countFrom, upTo}
-use Rattle.file.specs.Pairs.{countOf, offsetOf, lengthOf, checkFile, recordAt}
+use Rattle.file.specs.Pairs.{countOf, checkFile, recordAt}
+use Rattle.file.specs.Records.{front, recordRule, qubitsOf}
+use Rattle.file.specs.declared.InvolvedQubits.{InvolvedQubits}
 use Rattle.file.specs.declared.Refusal.{Refusal}
+use Rattle.file.specs.declared.Refusal.the-variants.{BadRecord, TooManyNodes, TooManyEdges, TooManyRegisters}
 use Rattle.file.specs.declared.FileCheck.the-variants.{Sound, Refused as BadFile}
-use Rattle.file.proofs.PairLaws.{accepted, inside}
-use Rattle.graph.specs.declared.NodeIndex.{NodeIndex}
-use Rattle.graph.specs.declared.CircuitDag.{CircuitDag}
-use Rattle.graph.specs.Dag.{absent, noEnd, noRegisters, empty}
-use Rattle.insertion.specs.declared.Answer.the-variants.{Node, Refused}
-use Rattle.insertion.specs.declared.Outcome.the-variants.{Done}
-use Rattle.insertion.specs.declared.Loaded.{Loaded}
-use Rattle.insertion.specs.Insertion.{nearAll}
-use Rattle.insertion.specs.Limits.{accepts, insertAs}
-use Rattle.insertion.specs.Load.{notLoaded, insertRecords, load}
-use Rattle.insertion.specs.Arrays.{GraphState, countsOf, graphState, Arrays, arrays, dagOf, emptyState, StateFits, InOrder, RecordInserted, Grows}
+use Rattle.file.proofs.PairLaws.{accepted}
+use Rattle.file.proofs.RecordLaws.{rule}
+use Rattle.graph.specs.Dag.{empty}
 use Rattle.graph.proofs.ListLaws.{length-countFrom}
-use Rattle.insertion.proofs.JoinLaws.{fits-none as ends-fit-none}
-use Rattle.insertion.proofs.RegisterLaws.{fits-none as maps-fit-none}
+use Rattle.links.specs.declared.LinkAnswer.{LinkAnswer}
+use Rattle.links.specs.declared.LinkAnswer.the-variants.{Done as Linked-all, Refused as Not-linked}
+use Rattle.links.specs.declared.LinkedRecords.{LinkedRecords}
+use Rattle.links.specs.Links.{Linked, link, linkAt, withEdges}
+use Rattle.links.specs.Linking.{linksFrom, noLinks, linksStopped, linkRecord, linkRecords}
+use Rattle.registers.specs.declared.Registered.{Registered}
+use Rattle.registers.specs.Registers.{registerRecords}
+use Rattle.insertion.specs.declared.Outcome.the-variants.{Done}
+use Rattle.insertion.specs.Load.{notLoaded, insertRecords, load}
+use Rattle.insertion.specs.Parts.{nodeLists, nodesAfter, assembled, LongEnough}
+use Rattle.insertion.proofs.PartLaws.{Together, together, not-both}
 
--- before the k-th record of an order of n
-pub record Loading (file order : List ℕ) (n : ℕ) (s : GraphState) (a : Arrays) (k : ℕ) : Type 0 where
-  pub low : k ≤ n
-  pub ordered : InOrder file order n
-  pub fits : StateFits s a
-  pub same : insertRecords file (dagOf s a) (drop k (take n order)) ≡ insertRecords file empty (take n order)
+-- ---- what the links accept
 
--- the arrays of the empty graph
-abbrev pub none : Arrays
-none = arrays (replicate 512 0) (replicate 512 0) (replicate 512 0) (replicate 512 (pos 0)) (replicate 2048 0) (replicate 2048 0) (replicate 64 absent) (replicate 64 absent) (replicate 512 false) (replicate 512 false) (replicate 256 0) (replicate 256 0) (replicate 256 0) (replicate 256 0) (replicate 256 0) (replicate 256 0) (replicate 512 0)
+-- at most one more for each record
+one-more : (i : ℕ) (f : Bool) (q : InvolvedQubits) (x : LinkedRecords) → linkRecord i f q x .accepted ≤ x .accepted + 1
+unfolding linkRecord
+one-more i f q x = by-limits (leb 512 (x .accepted)) (ltb 2048 (x .edges .count + length (y .others)))
+  where
+    y : Linked
+    y = linkAt f q (x .accepted) (x .first) (x .last)
 
-fits-empty : StateFits emptyState none
-unfolding noRegisters
-fits-empty = record {
-  nodes = omega arith;
-  ends = refl;
-  edges = omega arith;
-  from = length-replicate {A = ℕ} 2048 0;
-  to = length-replicate {A = ℕ} 2048 0;
-  first = ends-fit-none;
-  last = ends-fit-none;
-  first-registers = maps-fit-none;
-  last-registers = maps-fit-none;
-  commuting = omega arith;
-}
+    by-limits : (p r : Bool) → cond p (linksStopped (x .accepted) TooManyNodes) (cond r (linksStopped (x .accepted) (TooManyEdges i))
+        (linksFrom (x .accepted + 1) (withEdges (x .edges) (map (link f (x .accepted)) (y .others))) (cond f (y .near) (y .far)) (cond f (y .far) (y .near)))) .accepted ≤ x .accepted + 1
+    by-limits true r = omega arith
+    by-limits false true = omega arith
+    by-limits false false = omega arith
 
-pub begin : (file order : List ℕ) (n : ℕ) → InOrder file order n → Loading file order n (graphState (countsOf (replicate 7 0)) (absent ∷ 0 ∷ absent ∷ []) (absent ∷ 0 ∷ absent ∷ [])) none 0
-unfolding empty noEnd noRegisters countsOf
-begin file order n o = record { low = omega arith; ordered = o; fits = fits-empty; same = refl }
+links-few : (s : List ℕ) (l : List ℕ) (x : LinkedRecords) → linkRecords s x l .accepted ≤ x .accepted + length l
+unfolding linkRecords
+links-few s [] x = omega arith
+links-few s (i ∷ l) x = by-rule (recordRule (recordAt s i)) (links-few s l y)
+  where
+    y : LinkedRecords
+    y = linkRecord i (front (recordAt s i)) (qubitsOf (recordAt s i)) x
 
-module _ (file order : List ℕ) (n : ℕ) (s : GraphState) (a : Arrays) (k : ℕ) (l : Loading file order n s a k) (h : k < n) (i : ℕ) (is : i ≡ getD order k 0) where
-  pub within : offsetOf file i + lengthOf file i ≤ length file
-  within = inside file i (l .ordered .good) (rw is (l .ordered .there k h))
+    next : y .accepted ≤ x .accepted + 1
+    next = one-more i (front (recordAt s i)) (qubitsOf (recordAt s i)) x
 
-  turn : insertRecords file (dagOf s a) (i ∷ drop (k + 1) (take n order)) ≡ insertRecords file empty (take n order)
-  turn =
-      let m : k < length (take n order) = simp length-take (omega (arith, l .ordered .size, l .ordered .few)) in
-      let e = drop-cons (take n order) k 0 m in
-      rw (is, add-one, ← getD-take n order k 0 h, ← e) (l .same)
+    by-answer : (a : LinkAnswer) → linkRecords s y l .accepted ≤ y .accepted + length l → cond true (elim a [ Linked-all ↦ linkRecords s y l | Not-linked t ↦ y ]) y .accepted ≤ x .accepted + length (i ∷ l)
+    by-answer Linked-all h = omega (arith, next)
+    by-answer (Not-linked t) h = omega (arith, next)
 
-  module _ (start m : ℕ) (so : start ≡ offsetOf file i) (sm : m ≡ lengthOf file i) (r : RecordInserted) (a′ : Arrays) (grows : Grows i (take (start + m - start) (drop start file)) (dagOf s a) r a′) where
-    part-is : take (start + m - start) (drop start file) ≡ recordAt file i
-    part-is = let z : start + m - start ≡ m = omega arith in rw (z, sm, so) refl
+    by-rule : (r : Bool) → linkRecords s y l .accepted ≤ y .accepted + length l
+        → cond (not r) (linksStopped (x .accepted) (BadRecord i)) (elim (y .answer) [ Linked-all ↦ linkRecords s y l | Not-linked t ↦ y ]) .accepted ≤ x .accepted + length (i ∷ l)
+    by-rule false h = omega arith
+    by-rule true h = by-answer (y .answer) h
 
-    g : Grows i (recordAt file i) (dagOf s a) r a′
-    g = subst (λ (b : List ℕ). Grows i b (dagOf s a) r a′) part-is grows
+-- all keep their rule where all are accepted
+links-kept : (s : List ℕ) (l : List ℕ) (x : LinkedRecords) → linkRecords s x l .answer ≡ Linked-all → (k : ℕ) → k < length l → recordRule (recordAt s (getD l k 0)) ≡ true
+unfolding linkRecords
+links-kept s [] x e k h = absurd (omega arith)
+links-kept s (i ∷ l) x e k h = by-rule (recordRule (recordAt s i)) refl e k h (λ e k h. links-kept s l (linkRecord i (front (recordAt s i)) (qubitsOf (recordAt s i)) x) e k h)
+  where
+    y : LinkedRecords
+    y = linkRecord i (front (recordAt s i)) (qubitsOf (recordAt s i)) x
 
-    pub refused : (x : Refusal) → r .answer ≡ Refused x → notLoaded x ≡ insertRecords file empty (take n order)
-    unfolding insertRecords
-    refused x q =
-        let t : insertAs nearAll i (dagOf s a) (recordAt file i) .answer ≡ Refused x = sym (g .answer) ∙ q in
-        rw (t, insertRecords) at turn
+    Kept : Type 0
+    Kept = linkRecords s y l .answer ≡ Linked-all → (k : ℕ) → k < length l → recordRule (recordAt s (getD l k 0)) ≡ true
 
-    pub again : (v : NodeIndex) → r .answer ≡ Node v → Loading file order n (r .state) a′ (k + 1)
-    unfolding insertRecords
-    again v q =
-        let t : insertAs nearAll i (dagOf s a) (recordAt file i) .answer ≡ Node v = sym (g .answer) ∙ q in
-        let y : accepts (r .answer) ≡ true = ap accepts q in
-        record {
-          low = omega arith;
-          ordered = l .ordered;
-          fits = g .fits y;
-          same = rw (g .graph y) (rw (t, insertRecords) at turn);
-        }
+    by-answer : (a : LinkAnswer) → y .answer ≡ a → cond true (elim a [ Linked-all ↦ linkRecords s y l | Not-linked t ↦ y ]) y .answer ≡ Linked-all → linkRecords s y l .answer ≡ Linked-all
+    by-answer Linked-all d e = e
+    by-answer (Not-linked t) d e = not-both t (sym e ∙ d)
 
-pub finish : (file order : List ℕ) (n : ℕ) (s : GraphState) (a : Arrays) (k : ℕ) → Loading file order n s a k → n ≤ k → record { answer = Done; graph = dagOf s a } ≡ insertRecords file empty (take n order)
-unfolding insertRecords
-finish file order n s a k l h =
-    let z : drop k (take n order) ≡ [] = drop-of-length-le (take n order) {i = k} (simp length-take (omega (arith, l .ordered .size))) in
-    rw z at (l .same)
+    at : (k : ℕ) → recordRule (recordAt s i) ≡ true → k < length (i ∷ l) → linkRecords s y l .answer ≡ Linked-all → Kept → recordRule (recordAt s (getD (i ∷ l) k 0)) ≡ true
+    at zero t h e f = t
+    at (suc k) t h e f = f e k (omega arith)
+
+    by-rule : (r : Bool) → recordRule (recordAt s i) ≡ r → cond (not r) (linksStopped (x .accepted) (BadRecord i)) (elim (y .answer) [ Linked-all ↦ linkRecords s y l | Not-linked t ↦ y ]) .answer ≡ Linked-all
+        → (k : ℕ) → k < length (i ∷ l) → Kept → recordRule (recordAt s (getD (i ∷ l) k 0)) ≡ true
+    by-rule false t e k h f = not-both (BadRecord i) (sym e)
+    by-rule true t e k h f = at k t h (by-answer (y .answer) refl e) f
+
+-- ---- `insert_in_order`
+
+module _ (s l : List ℕ) (x : LinkedRecords) (ex : x ≡ linkRecords s noLinks l) where
+  pub linked-few : x .accepted ≤ length l
+  linked-few = let h = links-few s l noLinks in rw ex (omega (arith, h))
+
+  pub all-long : x .answer ≡ Linked-all → LongEnough s l
+  all-long e k h = rule _ (links-kept s l noLinks (rw ex at e) k h) .long
+
+  module _ (short : length l ≤ 512) (r : Registered) (er : r ≡ registerRecords s (take (x .accepted - 0) (drop 0 l))) where
+    t : Together s empty l x r
+    unfolding empty
+    t = rw (er, ex) (together s l empty (omega arith))
+
+    pub many : r .accepted < x .accepted → (i : ℕ) → i ≡ getD l (r .accepted) 0 → notLoaded (TooManyRegisters i) ≡ insertRecords s empty l
+    unfolding empty
+    many h i e = let z : r .accepted - 0 ≡ r .accepted = omega arith in rw e (rw z at (sym (t .many h)))
+
+    pub stops : (c : Refusal) → x .accepted ≤ r .accepted → x .answer ≡ Not-linked c → notLoaded c ≡ insertRecords s empty l
+    stops c h e = sym (t .stops c h e)
+
+    pub done : x .accepted ≤ r .accepted → x .answer ≡ Linked-all → record { answer = Done; graph = assembled (nodesAfter s (nodeLists empty) l) x r } ≡ insertRecords s empty l
+    done h e = sym (t .whole h e)
 
 -- ---- `load`
 
@@ -118,19 +135,18 @@ count-at (suc m) k zero h = omega arith
 count-at (suc m) k (suc i) h = let r = count-at m (k + 1) i (omega arith) in omega arith
 
 module _ (file order : List ℕ) (n : ℕ) (e : order ≡ upTo 512) (m : n ≡ countOf file) (good : checkFile file ≡ Sound) where
-  pub all-in-order : InOrder file order n
-  all-in-order =
-      let few = accepted file good .many in
-      record {
-        good = good;
-        size = rw e (length-countFrom 512 0);
-        few = omega (arith, m, few);
-        there = λ k h. rw (e, count-at 512 0 k (omega (arith, h, m, few))) (omega (arith, h, m));
-      }
+  pub few : n ≤ 512
+  few = omega (arith, m, accepted file good .many)
 
-  pub whole : insertRecords file empty (take n order) ≡ load file
+  numbers : take (n - 0) (drop 0 order) ≡ upTo n
+  numbers = let z : n - 0 ≡ n = omega arith in rw (z, e) (take-upTo n 512 0 few)
+
+  pub few-numbers : length (take (n - 0) (drop 0 order)) ≤ 512
+  few-numbers = rw numbers (omega (arith, few, length-countFrom n 0))
+
+  pub whole : insertRecords file empty (take (n - 0) (drop 0 order)) ≡ load file
   unfolding load
-  whole = rw (e, take-upTo n 512 0 (omega (arith, m, accepted file good .many)), m, good) refl
+  whole = rw (numbers, m, good) refl
 
 -- ---- `file_order`
 

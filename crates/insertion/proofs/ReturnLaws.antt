@@ -31,7 +31,8 @@ use Rattle.insertion.specs.declared.Answer.the-variants.{Node as IsNode,
 use Rattle.insertion.specs.declared.Outcome.the-variants.{Done, Refused}
 use Rattle.insertion.specs.declared.Inserted.{Inserted}
 use Rattle.insertion.specs.declared.Loaded.{Loaded}
-use Rattle.insertion.specs.Insertion.{nearAll, grown}
+use Rattle.links.specs.Links.{nearAll}
+use Rattle.insertion.specs.Insertion.{grown}
 use Rattle.insertion.specs.Limits.{insertAs, edgesPass, registersPass}
 use Rattle.insertion.specs.Load.{notLoaded, insertRecords}
 use Rattle.graph.proofs.CircuitLaws.{keep-split, place-here}

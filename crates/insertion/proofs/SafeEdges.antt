@@ -18,7 +18,8 @@ use Rattle.graph.specs.declared.Edges.{Edges}
 use Rattle.graph.specs.Dag.{Edge}
 use Rattle.graph.proofs.BoolLaws.{clash-bool}
 use Rattle.graph.proofs.ListLaws.{at-any, distinct-at}
-use Rattle.insertion.specs.Insertion.{link, placeAfter, appended, withEdges}
+use Rattle.links.specs.Links.{link, appended, withEdges}
+use Rattle.insertion.specs.Insertion.{placeAfter}
 use Rattle.insertion.proofs.SafeEnds.{Old}
 
 -- ---- places

@@ -20,10 +20,11 @@ use Rattle.graph.specs.declared.CircuitDag.{CircuitDag}
 use Rattle.graph.specs.Dag.{Entry, entry, size, entriesOf, sameKey}
 use Rattle.graph.proofs.BoolLaws.{bool-cases, clash-bool, and-l, and-r, split-lt}
 use Rattle.graph.proofs.ListLaws.{all-at, at-all}
-use Rattle.insertion.specs.Registers.{Maps, registersAfter}
-use Rattle.insertion.specs.Insertion.{placeAfter, withCommuting, withEntries}
-use Rattle.insertion.specs.RegisterMaps.{Fits}
-use Rattle.insertion.proofs.RegisterLaws.{keys-kept, nodes-below, entries-with, sized-with}
+use Rattle.registers.specs.Registers.{Maps, registersAfter}
+use Rattle.registers.specs.Registers.{withEntries}
+use Rattle.insertion.specs.Insertion.{placeAfter, withCommuting}
+use Rattle.registers.specs.RegisterMaps.{Fits}
+use Rattle.registers.proofs.RegisterLaws.{keys-kept, nodes-below, entries-with, sized-with}
 use Rattle.insertion.proofs.SafeEdges.{lies, lies-more, lies-new, lies-apart}
 
 -- ---- qubit operations

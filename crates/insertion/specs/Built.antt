@@ -15,7 +15,7 @@ use Rattle.graph.specs.Soundness.{sound}
 use Rattle.insertion.specs.declared.Answer.the-variants.{Refused}
 use Rattle.insertion.specs.declared.Inserted.{Inserted}
 use Rattle.insertion.specs.declared.Outcome.the-variants.{Done}
-use Rattle.insertion.specs.Insertion.{nearAll}
+use Rattle.links.specs.Links.{nearAll}
 use Rattle.insertion.specs.Limits.{accepts, insertAs, insertOf}
 use Rattle.insertion.specs.Load.{notLoaded, load}
 use Rattle.insertion.specs.Calls.{final}

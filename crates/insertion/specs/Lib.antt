@@ -1,12 +1,9 @@
-pub mod Registers
 pub mod Insertion
 pub mod Limits
 pub mod Load
 pub mod Calls
-pub mod Ends
-pub mod RegisterMaps
-pub mod Arrays
 pub mod Built
 pub mod Conversion
 pub mod Circuits
 pub mod CircuitRecords
+pub mod Parts

@@ -12,7 +12,8 @@ use Rattle.insertion.specs.declared.Answer.{Answer}
 use Rattle.insertion.specs.declared.Answer.the-variants.{Node, Refused}
 use Rattle.insertion.specs.declared.Inserted.{Inserted}
 use Rattle.graph.specs.Dag.{node, size}
-use Rattle.insertion.specs.Insertion.{FarRule, nearAll, facing, linked, registered, grown}
+use Rattle.links.specs.Links.{FarRule, nearAll}
+use Rattle.insertion.specs.Insertion.{facing, linked, registered, grown}
 use Rattle.graph.specs.Soundness.{sound}
 
 -- an answer that accepts

@@ -11,7 +11,7 @@ use Rattle.insertion.specs.declared.Answer.the-variants.{Node, Refused a
 use Rattle.insertion.specs.declared.Outcome.the-variants.{Done, Refused}
 use Rattle.insertion.specs.declared.Loaded.{Loaded}
 use Rattle.graph.specs.Dag.{empty}
-use Rattle.insertion.specs.Insertion.{nearAll}
+use Rattle.links.specs.Links.{nearAll}
 use Rattle.insertion.specs.Limits.{insertAs}
 
 -- "A refused load gives the empty graph."

@@ -1,148 +1,70 @@
-// A single insertion: the graph is taken apart, grows as in a load, and is put together again.
+// A single insertion: the record's node, its links and its register maps, on the parts of a graph.
 ghost use mathlib.Core.Path.{_≡_};
-ghost use mathlib.Core.Bool.{Bool, true, false};
-ghost use lib.ListN.{length};
-ghost use Rattle.file.specs.Lists.{anyOf};
+ghost use mathlib.Core.Bool.{Bool, true};
 ghost use Rattle.graph.specs.Soundness.{sound};
-ghost use Rattle.insertion.specs.Insertion.{nearAll};
-ghost use Rattle.insertion.specs.Limits.{insertAs, insertOf};
-ghost use Rattle.insertion.specs.Ends.{endState};
-ghost use Rattle.insertion.specs.Arrays.{countsOf, countsIn, endStateOf};
+ghost use Rattle.links.specs.Links.{nearAll};
+ghost use Rattle.insertion.specs.Limits.{refused, insertAs, insertOf};
+ghost use Rattle.insertion.specs.Parts.{nodeLists};
 use crate::Answer;
 use crate::Inserted;
-use crate::records::dag_of;
-use crate::records::insert_record;
+use crate::assembling::assemble;
+use crate::nodes::NodeLists;
+use crate::nodes::list_node;
+use file::Parsed;
 use file::Refusal;
 use graph::CircuitDag;
-use graph::End;
+use graph::NodeIndex;
+use links::LinkAnswer;
 
-// Whether the block has a node.
-fn has_node(block: &[bool; 512]) -> bool
-    requires { ⌜ length (now block) ≡ 512 ⌝ }
-    ensures { λ r. ⌜ r ≡ anyOf (λ b. b) (now (block .entry)) ⌝ }
+// A refusal leaves the graph as it was.
+fn not_inserted(r: Refusal, g: CircuitDag) -> Inserted
+    ensures { λ x. ⌜ x ≡ refused r g ⌝ }
 {
-    let mut v: usize = 0;
-    while v < 512 {
-        if block[v] {
-            return true;
-        }
-        v += 1;
+    Inserted {
+        answer: Answer::Refused(r),
+        graph: g,
     }
-    false
 }
 
-// The numbers of an end of a graph. Nothing is mapped from 64 on, and of the block it is said only whether it has a node.
-fn end_numbers(e: End) -> [u16; 3]
-    ensures { λ r. ⌜ endState r ≡ endStateOf e ⌝ }
+// The nodes, the commuting list and the counts of insertions of a graph.
+fn node_lists(g: CircuitDag) -> NodeLists
+    ensures { λ x. ⌜ x ≡ nodeLists g ⌝ }
 {
-    let all = e.all;
-    let block = e.block;
-    if has_node(&block) {
-        return [all.0, 64, 65534];
+    let nodes = g.nodes;
+    let commuting = g.commuting;
+    NodeLists {
+        nodes,
+        commuting,
+        backs: g.backs,
+        fronts: g.fronts,
     }
-    [all.0, 64, 65535]
 }
 
-// The seven numbers of a graph.
-fn graph_numbers(g: CircuitDag) -> [usize; 7]
-    ensures { λ r. ⌜ countsOf r ≡ countsIn g ⌝ }
-{
-    [
-        g.nodes.count,
-        g.edges.count,
-        g.first_registers.count,
-        g.last_registers.count,
-        g.commuting.count,
-        g.backs,
-        g.fronts,
-    ]
-}
-
-// The record on a sound graph; a refusal returns the graph that came in.
+// The record on a sound graph: 4, 5, 6, 7.
 fn insert_sound(g: CircuitDag, part: &[u8]) -> Inserted
     requires { ⌜ sound g ≡ true ⌝ }
     ensures { λ r. ⌜ r ≡ insertAs nearAll 0 g (now (part .entry)) ⌝ }
 {
-    let mut numbers = graph_numbers(g);
-    let mut first_numbers = end_numbers(g.first);
-    let mut last_numbers = end_numbers(g.last);
-    let mut kind = g.nodes.kind;
-    let mut form = g.nodes.form;
-    let mut label = g.nodes.label;
-    let mut place = g.nodes.place;
-    let mut from = g.edges.from;
-    let mut to = g.edges.to;
-    let mut first_node = g.first.node;
-    let mut last_node = g.last.node;
-    let mut first_block = g.first.block;
-    let mut last_block = g.last.block;
-    let mut first_name = g.first_registers.name;
-    let mut first_index = g.first_registers.index;
-    let mut first_owner = g.first_registers.node;
-    let mut first_hints = [0u16; 2048];
-    let mut last_name = g.last_registers.name;
-    let mut last_index = g.last_registers.index;
-    let mut last_owner = g.last_registers.node;
-    let mut last_hints = [0u16; 2048];
-    let mut commuting = g.commuting.list;
-    let mut others = [0u16; 64];
-    let answer = insert_record(
-        0,
-        part,
-        &mut numbers,
-        &mut first_numbers,
-        &mut last_numbers,
-        &mut kind,
-        &mut form,
-        &mut label,
-        &mut place,
-        &mut from,
-        &mut to,
-        &mut first_node,
-        &mut last_node,
-        &mut first_block,
-        &mut last_block,
-        &mut first_name,
-        &mut first_index,
-        &mut first_owner,
-        &mut first_hints,
-        &mut last_name,
-        &mut last_index,
-        &mut last_owner,
-        &mut last_hints,
-        &mut commuting,
-        &mut others,
-    );
-    if let Answer::Refused(x) = answer {
-        return Inserted {
-            answer: Answer::Refused(x),
-            graph: g,
-        };
+    let parsed = file::parse_record(part);
+    let Parsed::Record(s) = parsed else {
+        return not_inserted(Refusal::BadRecord(0), g);
+    };
+    let n = g.nodes.count;
+    let v = NodeIndex(n as u16);
+    let front = s.front;
+    let qubits = s.qubits;
+    let x = links::link_node(front, qubits, v, g.edges, g.first, g.last);
+    let answer = x.answer;
+    if let LinkAnswer::Refused(cause) = answer {
+        return not_inserted(cause, g);
+    }
+    let r = registers::register_record(g.first_registers, g.last_registers, part, v);
+    if r.accepted == 0 {
+        return not_inserted(Refusal::TooManyRegisters(0), g);
     }
     Inserted {
-        answer,
-        graph: dag_of(
-            numbers,
-            first_numbers,
-            last_numbers,
-            kind,
-            form,
-            label,
-            place,
-            from,
-            to,
-            first_node,
-            last_node,
-            first_block,
-            last_block,
-            first_name,
-            first_index,
-            first_owner,
-            last_name,
-            last_index,
-            last_owner,
-            commuting,
-        ),
+        answer: Answer::Node(v),
+        graph: assemble(list_node(part, node_lists(g)), x, r),
     }
 }
 
@@ -153,8 +75,5 @@ pub fn insert(g: CircuitDag, part: &[u8]) -> Inserted
     if graph::is_sound(g) {
         return insert_sound(g, part);
     }
-    Inserted {
-        answer: Answer::Refused(Refusal::Unsound),
-        graph: g,
-    }
+    not_inserted(Refusal::Unsound, g)
 }

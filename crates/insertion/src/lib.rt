@@ -1,18 +1,15 @@
 // Insertion at both ends and the load of a circuit file. The rules are in specs/.
+mod assembling;
 mod conversion;
 mod inserting;
-mod links;
 mod loading;
 mod nodes;
-mod records;
-mod registers;
 
 pub use conversion::from_circuit;
 use file::Refusal;
 use graph::CircuitDag;
 use graph::NodeIndex;
 pub use inserting::insert;
-pub use links::qubit_count;
 pub use loading::load;
 
 // What an insertion answers, beside the graph.

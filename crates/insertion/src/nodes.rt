@@ -4,22 +4,39 @@ ghost use mathlib.Core.Bool.{Bool, cond, _||_, _&&_};
 ghost use Prim.Native.Nat.{ℕ, _+_, _<_, _≤_};
 ghost use lib.Dec.{eqb};
 ghost use lib.ListN.{length, set};
-ghost use Rattle.file.specs.Records.{defines, formOf};
-ghost use Rattle.insertion.specs.Insertion.{placeAfter};
-ghost use Rattle.insertion.specs.Arrays.{commutesAs};
-use file::InvolvedClassical;
-use file::InvolvedQubits;
+ghost use Rattle.file.specs.Records;
+ghost use Rattle.file.specs.Records.{defines, qubitForm};
+ghost use Rattle.insertion.specs.Insertion.{placeAfter, commutes};
+ghost use Rattle.insertion.specs.Parts.{LongEnough, nodeLists, nodeAfter, nodesAfter};
+ghost use Rattle.graph.specs.Dag.{empty};
+use graph::Commuting;
 use graph::NodeIndex;
+use graph::Nodes;
+
+// The nodes, the commuting list and the counts of insertions.
+pub(crate) struct NodeLists {
+    pub nodes: Nodes,
+    pub commuting: Commuting,
+    pub backs: usize,
+    pub fronts: usize,
+}
+
+// A number of an order of records, to count with.
+pub(crate) fn widened(x: u16) -> usize
+    ensures { λ r. ⌜ r ≡ x ⌝ }
+{
+    x as usize
+}
 
 // How many insertions the record's end has had.
-pub(crate) fn insertions_at(front: bool, backs: usize, fronts: usize) -> usize
+fn insertions_at(front: bool, backs: usize, fronts: usize) -> usize
     ensures { λ r. ⌜ r ≡ cond front fronts backs ⌝ }
 {
     if front { fronts } else { backs }
 }
 
 // The place of an insertion after k others at its end: k at the back, -(k + 1) at the front.
-pub(crate) fn place_after(front: bool, k: usize) -> i16
+fn place_after(front: bool, k: usize) -> i16
     requires { ⌜ k < 512 ⌝ }
     ensures { λ r. ⌜ r ≡ placeAfter front k ⌝ }
 {
@@ -29,34 +46,62 @@ pub(crate) fn place_after(front: bool, k: usize) -> i16
     k as i16
 }
 
-// Node v keeps its kind, qubit form, label and place.
-pub(crate) fn put_node(
+// One more where it is so.
+fn one_more(n: usize, more: bool) -> usize
+    requires { ⌜ n ≤ 512 ⌝ }
+    ensures { λ r. ⌜ r ≡ cond more (n + 1) n ⌝ }
+{
+    if more { n + 1 } else { n }
+}
+
+// Whether the record goes to the front.
+fn is_front(part: &[u8]) -> bool
+    requires { ⌜ 14 ≤ length (now part) ⌝ }
+    ensures { λ r. ⌜ r ≡ Records.front (now (part .entry)) ⌝ }
+{
+    part[0] == 1
+}
+
+// A byte as a number of two.
+fn wide(x: u8) -> u16
+    ensures { λ r. ⌜ (r ≡ x) × (r < 256) ⌝ }
+{
+    x as u16
+}
+
+// The record's label.
+fn label_of(part: &[u8]) -> u16
+    requires { ⌜ 14 ≤ length (now part) ⌝ }
+    ensures { λ r. ⌜ r ≡ Records.label (now (part .entry)) ⌝ }
+{
+    wide(part[12]) + wide(part[13]) * 256
+}
+
+// Node v keeps the record's kind, qubit form and label, and its place, after k insertions at its end.
+fn put_node(
+    part: &[u8],
     v: NodeIndex,
-    kind: u8,
-    qubits: InvolvedQubits,
-    label: u16,
     front: bool,
-    backs: usize,
-    fronts: usize,
+    k: usize,
     kinds: &mut [u8; 512],
     forms: &mut [u8; 512],
     labels: &mut [u16; 512],
     places: &mut [i16; 512],
 )
-    requires { ⌜ (v .0 < 512) × (cond front fronts backs < 512) ⌝ }
-    ensures { λ r. ⌜ (now (kinds .exit) ≡ set (now (kinds .entry)) (v .0) kind) × (now (forms .exit) ≡ set (now (forms .entry)) (v .0) (formOf qubits)) × (now (labels .exit) ≡ set (now (labels .entry)) (v .0) label) × (now (places .exit) ≡ set (now (places .entry)) (v .0) (placeAfter front (cond front fronts backs))) ⌝ }
+    requires { ⌜ (v .0 < 512) × (k < 512) × (14 ≤ length (now part)) ⌝ }
+    ensures { λ r. ⌜ (now (kinds .exit) ≡ set (now (kinds .entry)) (v .0) (Records.kind (now (part .entry)))) × (now (forms .exit) ≡ set (now (forms .entry)) (v .0) (qubitForm (now (part .entry)))) × (now (labels .exit) ≡ set (now (labels .entry)) (v .0) (Records.label (now (part .entry)))) × (now (places .exit) ≡ set (now (places .entry)) (v .0) (placeAfter front k)) ⌝ }
 {
     let i = v.0 as usize;
-    let form = file::qubit_form(qubits);
-    let place = place_after(front, insertions_at(front, backs, fronts));
-    kinds[i] = kind;
-    forms[i] = form;
+    let label = label_of(part);
+    let place = place_after(front, k);
+    kinds[i] = part[1];
+    forms[i] = part[2];
     labels[i] = label;
     places[i] = place;
 }
 
 // Kinds 1 to 4, and records with both forms None, join the commuting list.
-pub(crate) fn is_commuting(kind: u8, form: u8, register: u8) -> bool
+fn is_commuting(kind: u8, form: u8, register: u8) -> bool
     ensures { λ r. ⌜ r ≡ (defines kind || (eqb form 0 && eqb register 0)) ⌝ }
 {
     match kind {
@@ -66,22 +111,100 @@ pub(crate) fn is_commuting(kind: u8, form: u8, register: u8) -> bool
 }
 
 // Node v behind the count nodes of the commuting list, if it joins; how many there are then.
-pub(crate) fn put_commuting(
-    kind: u8,
-    qubits: InvolvedQubits,
-    classical: InvolvedClassical,
-    v: NodeIndex,
-    list: &mut [u16; 512],
-    count: usize,
-) -> usize
-    requires { ⌜ count < 512 ⌝ }
-    ensures { λ r. ⌜ (r ≡ cond (commutesAs kind qubits classical) (count + 1) count) × (now (list .exit) ≡ cond (commutesAs kind qubits classical) (set (now (list .entry)) count (v .0)) (now (list .entry))) ⌝ }
+fn put_commuting(part: &[u8], v: NodeIndex, list: &mut [u16; 512], count: usize) -> usize
+    requires { ⌜ (count < 512) × (14 ≤ length (now part)) ⌝ }
+    ensures { λ r. ⌜ (r ≡ cond (commutes (now (part .entry))) (count + 1) count) × (now (list .exit) ≡ cond (commutes (now (part .entry))) (set (now (list .entry)) count (v .0)) (now (list .entry))) ⌝ }
 {
-    let form = file::qubit_form(qubits);
-    let register = file::register_form(classical);
-    if is_commuting(kind, form, register) {
+    if is_commuting(part[1], part[2], part[11]) {
         list[count] = v.0;
         return count + 1;
     }
     count
+}
+
+// The record as the next node.
+pub(crate) fn list_node(part: &[u8], x: NodeLists) -> NodeLists
+    requires { ⌜ (14 ≤ length (now part)) × (x .nodes .count < 512) × (x .commuting .count < 512) × (x .backs < 512) × (x .fronts < 512) ⌝ }
+    ensures { λ r. ⌜ r ≡ nodeAfter (now (part .entry)) x ⌝ }
+{
+    let mut kind = x.nodes.kind;
+    let mut form = x.nodes.form;
+    let mut label = x.nodes.label;
+    let mut place = x.nodes.place;
+    let mut list = x.commuting.list;
+    let n = x.nodes.count;
+    let v = NodeIndex(n as u16);
+    let front = is_front(part);
+    let before = insertions_at(front, x.backs, x.fronts);
+    put_node(
+        part,
+        v,
+        front,
+        before,
+        &mut kind,
+        &mut form,
+        &mut label,
+        &mut place,
+    );
+    let count = put_commuting(part, v, &mut list, x.commuting.count);
+    NodeLists {
+        nodes: Nodes {
+            count: n + 1,
+            kind,
+            form,
+            label,
+            place,
+        },
+        commuting: Commuting { count, list },
+        backs: one_more(x.backs, !front),
+        fronts: one_more(x.fronts, front),
+    }
+}
+
+// The file's records with these numbers, one after the other, as nodes 0, 1, 2, ..
+pub(crate) fn list_nodes(file: &[u8], order: &[u16]) -> NodeLists
+    requires { ⌜ (length (now order) ≤ 512) × LongEnough (now file) (now order) ⌝ }
+    ensures { λ r. ⌜ r ≡ nodesAfter (now (file .entry)) (nodeLists empty) (now (order .entry)) ⌝ }
+{
+    let mut kind = [0u8; 512];
+    let mut form = [0u8; 512];
+    let mut label = [0u16; 512];
+    let mut place = [0i16; 512];
+    let mut list = [0u16; 512];
+    let mut count: usize = 0;
+    let mut backs: usize = 0;
+    let mut fronts: usize = 0;
+    let mut k: usize = 0;
+    while k < order.len() {
+        let part = file::part_of(file, widened(order[k]));
+        let v = NodeIndex(k as u16);
+        let front = is_front(part);
+        let before = insertions_at(front, backs, fronts);
+        put_node(
+            part,
+            v,
+            front,
+            before,
+            &mut kind,
+            &mut form,
+            &mut label,
+            &mut place,
+        );
+        count = put_commuting(part, v, &mut list, count);
+        backs = one_more(backs, !front);
+        fronts = one_more(fronts, front);
+        k += 1;
+    }
+    NodeLists {
+        nodes: Nodes {
+            count: k,
+            kind,
+            form,
+            label,
+            place,
+        },
+        commuting: Commuting { count, list },
+        backs,
+        fronts,
+    }
 }

@@ -11,8 +11,9 @@ use Rattle.graph.specs.Soundness.{ascends, sound}
 use Rattle.graph.specs.Conversion.{placeIn, sortByPlace, circuitOf}
 use Rattle.graph.specs.Reach.{reachedBy, blocking}
 use Rattle.graph.specs.Queries.{remove, layerAfter, newFrontLayer}
-use Rattle.insertion.specs.Registers.{put, define, setKeys, registersAfter}
-use Rattle.insertion.specs.Insertion.{qubitsFrom, linkQubits, linkSet, mapped, linkAll, grown}
+use Rattle.registers.specs.Registers.{put, define, setKeys, registersAfter}
+use Rattle.links.specs.Links.{qubitsFrom, linkQubits, linkSet, mapped, linkAll}
+use Rattle.insertion.specs.Insertion.{grown}
 use Rattle.insertion.specs.Limits.{insertAs, insertOf}
 use Rattle.insertion.specs.Calls.{graphAfter, final}
 use Rattle.walk.specs.Blocks.{marks, start, joined, followers, blocksFrom, blocks, numberFrom, wholeWalk}

@@ -20,7 +20,7 @@ use Rattle.graph.specs.Queries.{Lent}
 use Rattle.graph.specs.Marks.{putAt}
 use Rattle.graph.proofs.BoolLaws.{bool-cases, clash-bool, and-l, and-r, and-intro, split-lt}
 use Rattle.graph.proofs.BufferLaws.{put-none, put-one, put-put, length-put, answers-short, answers-whole}
-use Rattle.insertion.proofs.LinkLoops.{any-default}
+use Rattle.links.proofs.LinkLoops.{any-default}
 use Rattle.walk.specs.declared.BlockCount.{BlockCount}
 use Rattle.walk.specs.declared.BlockCount.the-variants.{Blocks, Refused as NotWalked}
 use Rattle.walk.specs.Blocks.{Walked, blocks, blockNumbers, wholeWalk}

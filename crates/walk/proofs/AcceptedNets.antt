@@ -25,7 +25,8 @@ use Rattle.graph.proofs.BoolLaws.{bool-cases, clash-bool, not-true}
 use Rattle.graph.proofs.ListLaws.{all-here, all-fails}
 use Rattle.insertion.specs.declared.Answer.the-variants.{Node, Refused}
 use Rattle.insertion.specs.declared.Inserted.{Inserted}
-use Rattle.insertion.specs.Insertion.{nearAll, grown}
+use Rattle.links.specs.Links.{nearAll}
+use Rattle.insertion.specs.Insertion.{grown}
 use Rattle.insertion.specs.Limits.{refused, edgesPass, registersPass, insertAs, insertOf}
 use Rattle.insertion.specs.Calls.{graphAfter, final}
 use Rattle.insertion.proofs.SafeEnds.{all-same}

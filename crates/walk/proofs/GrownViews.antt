@@ -17,7 +17,9 @@ use Rattle.graph.specs.declared.CircuitDag.{CircuitDag}
 use Rattle.graph.specs.Dag.{Edge, edge, size, edgeAt, sameEdge, hasEdge}
 use Rattle.graph.proofs.BoolLaws.{bool-cases, bool-ext, and-intro, or-cases, or-inl, or-inr}
 use Rattle.graph.proofs.ListLaws.{any-here, any-later, any-at, at-any, any-upTo, upTo-any}
-use Rattle.insertion.specs.Insertion.{nearAll, facing, link, placeAfter, linkBy, linked, registered, commutes, appended, withEdges, withCommuting, withEntries, grown}
+use Rattle.links.specs.Links.{nearAll, link, linkBy, appended, withEdges}
+use Rattle.registers.specs.Registers.{withEntries}
+use Rattle.insertion.specs.Insertion.{facing, placeAfter, linked, registered, commutes, withCommuting, grown}
 use Rattle.insertion.proofs.SafeNodes.{moreNodes}
 use Rattle.insertion.proofs.BuiltLaws.{Safe}
 use Rattle.walk.proofs.LinkViews.{Sees, Fits, takeBy, link-sees}

@@ -19,9 +19,9 @@ use Rattle.graph.specs.declared.End.{End}
 use Rattle.graph.specs.Dag.{absent, present, orElse, node, atQubit}
 use Rattle.graph.proofs.BoolLaws.{bool-cases, clash-bool, not-true, bool-ext, and-l, and-r, and-intro, or-cases, or-inl, or-inr, not-flip, flip-not, eqb-same}
 use Rattle.graph.proofs.ListLaws.{any-here, any-later, any-at, at-any, any-snoc}
-use Rattle.insertion.specs.Insertion.{Linked, nearAll, source, nearAfter, noQubit, qubitsFrom, qubits, linkQubits, linkSet, mapped, linkAll, linkBy}
-use Rattle.insertion.proofs.QubitLaws.{qubits-ascend}
-use Rattle.insertion.proofs.LinkLaws.{addPresent, linkOne, ascend-distinct, set-entries, set-outside, farEntry}
+use Rattle.links.specs.Links.{Linked, nearAll, source, nearAfter, noQubit, qubitsFrom, qubits, linkQubits, linkSet, mapped, linkAll, linkBy}
+use Rattle.links.proofs.QubitLaws.{qubits-ascend}
+use Rattle.links.proofs.LinkLaws.{addPresent, linkOne, ascend-distinct, set-entries, set-outside, farEntry}
 use Rattle.insertion.proofs.SafeEnds.{all-same}
 use Rattle.walk.proofs.Bounds.{eqb-flip, any, any-intro, any-elim, any-and, and-any, any-ext, any-none, none-any}
 use Rattle.walk.proofs.BlockSteps.{any-list, not-empty, empty-not}

@@ -14,8 +14,8 @@ use Rattle.file.specs.Pairs.{numberAt}
 use Rattle.file.specs.Records.{front, kind, qubitForm, registerForm, mask, definitionRule, qubitRule, tailRule, recordRule, qubitsBy, qubitsOf}
 use Rattle.graph.proofs.BoolLaws.{bool-cases, clash-bool, not-true, and-l, and-r, and-intro, or-inl, or-inr, flip-not}
 use Rattle.graph.proofs.ListLaws.{all-at, none-at, keep-any}
-use Rattle.insertion.specs.Insertion.{qubits}
-use Rattle.insertion.proofs.QubitLaws.{qubits-next}
+use Rattle.links.specs.Links.{qubits}
+use Rattle.links.proofs.QubitLaws.{qubits-next}
 use Rattle.walk.specs.Guarantee.{Accepted, takesAll, takesQubits, emptySet, clash}
 use Rattle.walk.proofs.Bounds.{any}
 use Rattle.walk.proofs.LinkViews.{has, has-any, has-some, takeBy}

@@ -13,7 +13,7 @@ use Rattle.file.specs.declared.Refusal.the-variants.{ShortBuffer}
 use Rattle.graph.specs.declared.CircuitDag.{CircuitDag}
 use Rattle.insertion.specs.declared.Answer.the-variants.{Node, Refused}
 use Rattle.graph.specs.Dag.{absent, empty, size}
-use Rattle.insertion.specs.Insertion.{nearAll, qubits}
+use Rattle.links.specs.Links.{nearAll, qubits}
 use Rattle.insertion.specs.Limits.{insertAs, insertOf}
 use Rattle.insertion.specs.Calls.{final}
 use Rattle.walk.specs.declared.ParallelBlocks.{ParallelBlocks}

@@ -14,8 +14,13 @@ insert-sound-requires c κs = sym (c .before .is-sound .ensures) ∙ c .if1 .tak
 returns : tie.Need-returns
 returns c = c .insert-sound .ensures ∙ sound-inserts _ _ (sym (c .before .before .is-sound .ensures) ∙ c .before .if1 .taken)
 
+not-inserted-requires : tie.Need-not-inserted-requires
+not-inserted-requires c κs = search needs
+
 returns-2 : tie.Need-returns-2
-returns-2 c = unsound-refuses _ _ (sym (c .before .is-sound .ensures) ∙ c .if1 .left)
+returns-2 c = c .not-inserted .ensures ∙ unsound-refuses _ _ (sym (c .before .before .is-sound .ensures) ∙ c .before .if1 .left)
 
 pub insert-spec : {M : Type 1} → statement M
-insert-spec = tie.close (tie.spec is-sound-requires insert-sound-requires returns returns-2)
+insert-spec =
+    tie.close
+    (tie.spec is-sound-requires insert-sound-requires returns not-inserted-requires returns-2)

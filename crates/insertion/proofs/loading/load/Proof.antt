@@ -1,6 +1,7 @@
 -- `insertion::loading::load` meets its contract. Assumes nothing.
-use Rattle.insertion.proofs.LoadLaws.{bad-file, all-in-order, whole}
 use mathlib.Core.Path.{sym, _∙_}
+use native.Mathlib.Omega.{arith}
+use Rattle.insertion.proofs.LoadLaws.{bad-file, few, few-numbers, whole}
 use borrow.Author.Needs.{needs}
 use Rattle.insertion.proofs.loading.load.Statement.{statement}
 use Rattle.insertion.proofs.loading.load.Tie as tie
@@ -23,14 +24,26 @@ record-count-requires c κs = search needs
 file-order-requires : tie.Need-file-order-requires
 file-order-requires c κs = search needs
 
+mul-insert-in-order : tie.Need-mul-insert-in-order
+mul-insert-in-order c = search needs
+
+sub-insert-in-order : tie.Need-sub-insert-in-order
+sub-insert-in-order c = search needs
+
+part-insert-in-order-start : tie.Need-part-insert-in-order-start
+part-insert-in-order-start c = search needs
+
+part-insert-in-order-end : tie.Need-part-insert-in-order-end
+part-insert-in-order-end c = omega (arith, few _ _ _ (c .before .file-order .ensures) (c .before .before .record-count .ensures) (sym (c .before .before .before .before .before .check-file .ensures) ∙ c .before .before .before .enum-told .given .1))
+
 insert-in-order-requires : tie.Need-insert-in-order-requires
-insert-in-order-requires c κs = all-in-order _ _ _ (c .before .file-order .ensures) (c .before .before .record-count .ensures) (sym (c .before .before .before .before .before .check-file .ensures) ∙ c .before .before .before .enum-told .given .1)
+insert-in-order-requires c κs = few-numbers _ _ _ (c .before .before .file-order .ensures) (c .before .before .before .record-count .ensures) (sym (c .before .before .before .before .before .before .check-file .ensures) ∙ c .before .before .before .before .enum-told .given .1)
 
 returns : tie.Need-returns
 returns c = c .not-loaded .ensures ∙ bad-file _ _ (sym (c .before .before .before .before .check-file .ensures) ∙ c .before .before .found .given .1)
 
 returns-2 : tie.Need-returns-2
-returns-2 c = c .insert-in-order .ensures ∙ whole _ _ _ (c .before .before .file-order .ensures) (c .before .before .before .record-count .ensures) (sym (c .before .before .before .before .before .before .check-file .ensures) ∙ c .before .before .before .before .enum-told .given .1)
+returns-2 c = c .insert-in-order .ensures ∙ whole _ _ _ (c .before .before .before .file-order .ensures) (c .before .before .before .before .record-count .ensures) (sym (c .before .before .before .before .before .before .before .check-file .ensures) ∙ c .before .before .before .before .before .enum-told .given .1)
 
 pub load-spec : {M : Type 1} → statement M
 load-spec =
@@ -42,6 +55,10 @@ load-spec =
     enum-told
     record-count-requires
     file-order-requires
+    mul-insert-in-order
+    sub-insert-in-order
+    part-insert-in-order-start
+    part-insert-in-order-end
     insert-in-order-requires
     returns
     returns-2)

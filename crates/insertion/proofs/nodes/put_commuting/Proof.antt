@@ -4,11 +4,14 @@ use borrow.Author.Needs.{needs}
 use Rattle.insertion.proofs.nodes.put_commuting.Statement.{statement}
 use Rattle.insertion.proofs.nodes.put_commuting.Tie as tie
 
-qubit-form-requires : tie.Need-qubit-form-requires
-qubit-form-requires c κs = search needs
+shared-slice-read-is-commuting : tie.Need-shared-slice-read-is-commuting
+shared-slice-read-is-commuting c = search needs
 
-register-form-requires : tie.Need-register-form-requires
-register-form-requires c κs = search needs
+shared-slice-read-is-commuting-2 : tie.Need-shared-slice-read-is-commuting-2
+shared-slice-read-is-commuting-2 c = search needs
+
+shared-slice-read-is-commuting-3 : tie.Need-shared-slice-read-is-commuting-3
+shared-slice-read-is-commuting-3 c = search needs
 
 is-commuting-requires : tie.Need-is-commuting-requires
 is-commuting-requires c κs = search needs
@@ -23,17 +26,18 @@ add-result : tie.Need-add-result
 add-result c = search needs
 
 returns : tie.Need-returns
-returns c = rw (← c .before .before .before .qubit-form .ensures, ← c .before .before .register-form .ensures, ← c .before .is-commuting .ensures, c .if1 .taken) (refl, refl)
+returns c = rw (← c .before .is-commuting .ensures, c .if1 .taken) (refl, refl)
 
 returns-2 : tie.Need-returns-2
-returns-2 c = rw (← c .before .before .before .qubit-form .ensures, ← c .before .before .register-form .ensures, ← c .before .is-commuting .ensures, c .if1 .left) (refl, refl)
+returns-2 c = rw (← c .before .is-commuting .ensures, c .if1 .left) (refl, refl)
 
 pub put-commuting-spec : {M : Type 1} → statement M
 put-commuting-spec =
     tie.close
     (tie.spec
-    qubit-form-requires
-    register-form-requires
+    shared-slice-read-is-commuting
+    shared-slice-read-is-commuting-2
+    shared-slice-read-is-commuting-3
     is-commuting-requires
     mul-list
     element-write-list

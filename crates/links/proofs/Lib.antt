@@ -1,0 +1,6 @@
+pub mod QubitLaws
+pub mod LinkLaws
+pub mod LinkLoops
+pub mod EdgeLaws
+pub mod JoinLaws
+pub mod LinkingLaws

@@ -1,0 +1,87 @@
+-- `links::records::link_node` meets its contract. Assumes nothing.
+use mathlib.Core.Path.{refl, sym, _∙_}
+use borrow.Author.Tests.{not-true, not-false}
+use borrow.Author.Needs.{needs}
+use Rattle.graph.proofs.SizeLaws.{edges-sized, end-sized}
+use Rattle.links.proofs.LinkingLaws.{end-fits, fit-told, unfit-node, node-full, node-stops, node-grows}
+use Rattle.links.proofs.records.link_node.Statement.{statement}
+use Rattle.links.proofs.records.link_node.Tie as tie
+
+cast-n : tie.Need-cast-n
+cast-n c = search needs
+
+links-fit-requires : tie.Need-links-fit-requires
+links-fit-requires c κs = tt
+
+links-stopped-requires : tie.Need-links-stopped-requires
+links-stopped-requires c κs = tt
+
+returns : tie.Need-returns
+returns c = let a = c .before .before .before .before .args in c .links-stopped .ensures ∙ unfit-node (a .front) (a .qubits) (a .v) (a .edges) (a .first) (a .last) (sym (c .before .before .links-fit .ensures) ∙ not-true _ (c .before .if1 .taken))
+
+links-stopped-requires-2 : tie.Need-links-stopped-requires-2
+links-stopped-requires-2 c κs = tt
+
+returns-2 : tie.Need-returns-2
+returns-2 c =
+    let a = c .before .before .before .before .before .args in
+    c .links-stopped2 .ensures ∙ node-full (a .front) (a .qubits) (a .v) (a .edges) (a .first) (a .last) (sym (c .before .before .before .links-fit .ensures) ∙ not-false _ (c .before .before .if1 .left)) (c .before .if2 .taken)
+
+end-numbers-requires : tie.Need-end-numbers-requires
+end-numbers-requires c κs = tt
+
+end-numbers-requires-2 : tie.Need-end-numbers-requires-2
+end-numbers-requires-2 c κs = tt
+
+link-record-requires : tie.Need-link-record-requires
+link-record-requires c κs =
+    let s = c .before .before .before .before .before .before .before .before .before .before .before .before .before .before .before .before .before .before .before .before .before in
+    let a = s .args in
+    let f = fit-told (a .v .0) (a .edges) (a .first) (a .last) (sym (c .before .before .before .before .before .before .before .before .before .before .before .before .before .before .before .before .before .before .before .links-fit .ensures) ∙ not-false _ (c .before .before .before .before .before .before .before .before .before .before .before .before .before .before .before .before .before .before .if1 .left)) in
+    let z = edges-sized (a .edges) _ (s .good .1 .1 .1 .0) in (
+      c .before .before .before .before .before .before .before .before .before .before .before .before .before .before .before .before .before .if2 .left,
+      f .0,
+      z .from,
+      z .to,
+      refl,
+      end-fits (a .v .0) (a .first) _ (c .before .before .before .before .before .before .before .before .before .before .before .before .before .before .before .before .end-numbers .ensures) (end-sized (a .first) _ (s .good .1 .1 .1 .1 .0)) (f .1),
+      end-fits (a .v .0) (a .last) _ (c .before .before .before .before .before .before .before .before .before .before .before .before .before .before .before .end-numbers2 .ensures) (end-sized (a .last) _ (s .good .1 .1 .1 .1 .1 .0)) (f .2),
+    )
+
+links-stopped-requires-3 : tie.Need-links-stopped-requires-3
+links-stopped-requires-3 c κs = tt
+
+returns-3 : tie.Need-returns-3
+returns-3 c =
+    let a = c .before .before .before .before .before .before .before .before .before .before .before .before .before .before .before .before .before .before .before .before .before .before .before .before .args in
+    c .links-stopped3 .ensures ∙ node-stops (a .front) (a .qubits) (a .v) (a .edges) (a .first) (a .last) (sym (c .before .before .before .before .before .before .before .before .before .before .before .before .before .before .before .before .before .before .before .before .before .before .links-fit .ensures) ∙ not-false _ (c .before .before .before .before .before .before .before .before .before .before .before .before .before .before .before .before .before .before .before .before .before .if1 .left)) (c .before .before .before .before .before .before .before .before .before .before .before .before .before .before .before .before .before .before .before .before .if2 .left) _ _ (c .before .before .before .before .before .before .before .before .before .before .before .before .before .before .before .before .before .before .before .end-numbers .ensures) (c .before .before .before .before .before .before .before .before .before .before .before .before .before .before .before .before .before .before .end-numbers2 .ensures) _ _ _ _ _ _ _ (c .before .before .link-record .ensures .0) (c .before .if3 .taken)
+
+add-links-held : tie.Need-add-links-held
+add-links-held c = search needs
+
+links-held-requires : tie.Need-links-held-requires
+links-held-requires c κs = tt
+
+returns-4 : tie.Need-returns-4
+returns-4 c =
+    let a = c .before .before .before .before .before .before .before .before .before .before .before .before .before .before .before .before .before .before .before .before .before .before .before .before .args in
+    c .links-held .ensures ∙ node-grows (a .front) (a .qubits) (a .v) (a .edges) (a .first) (a .last) (sym (c .before .before .before .before .before .before .before .before .before .before .before .before .before .before .before .before .before .before .before .before .before .before .links-fit .ensures) ∙ not-false _ (c .before .before .before .before .before .before .before .before .before .before .before .before .before .before .before .before .before .before .before .before .before .if1 .left)) (c .before .before .before .before .before .before .before .before .before .before .before .before .before .before .before .before .before .before .before .before .if2 .left) _ _ (c .before .before .before .before .before .before .before .before .before .before .before .before .before .before .before .before .before .before .before .end-numbers .ensures) (c .before .before .before .before .before .before .before .before .before .before .before .before .before .before .before .before .before .before .end-numbers2 .ensures) _ _ _ _ _ _ _ (c .before .before .link-record .ensures .0) (c .before .if3 .left)
+
+pub link-node-spec : {M : Type 1} → statement M
+link-node-spec =
+    tie.close
+    (tie.spec
+    cast-n
+    links-fit-requires
+    links-stopped-requires
+    returns
+    links-stopped-requires-2
+    returns-2
+    end-numbers-requires
+    end-numbers-requires-2
+    link-record-requires
+    links-stopped-requires-3
+    returns-3
+    add-links-held
+    links-held-requires
+    returns-4)

@@ -1,0 +1,54 @@
+-- What a list of records, one after the other, does to the ends and edges, and one record on those of a graph. Assumes nothing.
+use mathlib.Core.Bool.{Bool, cond, not, _&&_}
+use mathlib.Core.List.{List, [], _∷_, _++_, map}
+use Prim.Native.Nat.{ℕ, _+_}
+use lib.Dec.{ltb, leb}
+use lib.ListN.{length}
+use Rattle.file.specs.Lists.{allOf}
+use Rattle.file.specs.Pairs.{recordAt}
+use Rattle.file.specs.Records.{front, recordRule, qubitsOf}
+use Rattle.file.specs.declared.InvolvedQubits.{InvolvedQubits}
+use Rattle.file.specs.declared.Refusal.{Refusal}
+use Rattle.file.specs.declared.Refusal.the-variants.{BadRecord, TooManyNodes, TooManyEdges, Unsound}
+use Rattle.graph.specs.declared.NodeIndex.{NodeIndex}
+use Rattle.graph.specs.declared.Edges.{Edges}
+use Rattle.graph.specs.declared.End.{End}
+use Rattle.graph.specs.Dag.{empty}
+use Rattle.graph.specs.Soundness.{named, ifPresent}
+use Rattle.links.specs.declared.LinkAnswer.the-variants.{Done, Refused}
+use Rattle.links.specs.declared.LinkedRecords.{LinkedRecords}
+use Rattle.links.specs.Links.{link, withEdges, linkAt}
+
+-- the ends and edges of v nodes ..
+abbrev pub linksFrom : ℕ → Edges → End → End → LinkedRecords
+linksFrom v edges first last = record { accepted = v; answer = Done; edges = edges; first = first; last = last }
+
+-- .. of none: the empty graph's
+abbrev pub noLinks : LinkedRecords
+noLinks = linksFrom 0 (empty .edges) (empty .first) (empty .last)
+
+-- .. and where the record after k nodes is refused: "a refused load gives the empty graph"
+abbrev pub linksStopped : ℕ → Refusal → LinkedRecords
+linksStopped k r = record { accepted = k; answer = Refused r; edges = empty .edges; first = empty .first; last = empty .last }
+
+-- record i, at this end and with these qubits, as the next node: "512 nodes", then "distinct edges would pass 2,048"
+unfoldable pub linkRecord : ℕ → Bool → InvolvedQubits → LinkedRecords → LinkedRecords
+linkRecord i f qubits x = let y = linkAt f qubits (x .accepted) (x .first) (x .last) in
+    cond (leb 512 (x .accepted)) (linksStopped (x .accepted) TooManyNodes)
+    (cond (ltb 2048 (x .edges .count + length (y .others))) (linksStopped (x .accepted) (TooManyEdges i))
+    (linksFrom (x .accepted + 1) (withEdges (x .edges) (map (link f (x .accepted)) (y .others))) (cond f (y .near) (y .far)) (cond f (y .far) (y .near))))
+
+-- the file's records with these numbers, one after the other: "then per record 4" and so on
+unfoldable pub linkRecords : List ℕ → LinkedRecords → List ℕ → LinkedRecords
+linkRecords s x [] = x
+linkRecords s x (i ∷ l) = let y = linkRecord i (front (recordAt s i)) (qubitsOf (recordAt s i)) x in
+    cond (not (recordRule (recordAt s i))) (linksStopped (x .accepted) (BadRecord i))
+    (elim (y .answer) [ Done ↦ linkRecords s y l | Refused r ↦ y ])
+
+-- "every stored node number is below the node count", of the two ends; and "2,048 edges"
+abbrev pub linksFit : ℕ → Edges → End → End → Bool
+linksFit v edges first last = leb (edges .count) 2048 && (allOf (ifPresent (λ u. ltb u v)) (named first) && allOf (ifPresent (λ u. ltb u v)) (named last))
+
+-- one record as node v, "record (0 on insertion)", on the ends and edges of a graph with v nodes
+unfoldable pub linkNode : Bool → InvolvedQubits → NodeIndex → Edges → End → End → LinkedRecords
+linkNode f qubits v edges first last = cond (linksFit (v .0) edges first last) (linkRecord 0 f qubits (linksFrom (v .0) edges first last)) (linksStopped (v .0) Unsound)

@@ -1,0 +1,307 @@
+// The ends and edges of a list of records, and of one record on the ends and edges of a graph. No other part of an insertion reads
+// them, so that a load makes them in a loop of their own.
+ghost use mathlib.Core.Path.{_≡_};
+ghost use mathlib.Core.Bool.{Bool, true, false};
+ghost use Prim.Native.Nat.{ℕ, _+_, _≤_, _<_};
+ghost use lib.Dec.{ltb};
+ghost use lib.ListN.{length};
+ghost use Rattle.file.specs.Lists.{anyOf, allOf};
+ghost use Rattle.graph.specs.Soundness.{named, ifPresent};
+ghost use Rattle.links.specs.Ends.{endState, endOf, endStateOf, EndFits, RecordLinked};
+ghost use Rattle.links.specs.Links.{linkAt};
+ghost use Rattle.links.specs.Linking.{linksFrom, linksStopped, noLinks, linksFit, linkNode, linkRecords};
+use crate::LinkAnswer;
+use crate::LinkedRecords;
+use crate::ends::ALL;
+use crate::ends::add_edges;
+use crate::ends::join_record;
+use file::InvolvedQubits;
+use file::Parsed;
+use file::Refusal;
+use graph::Edges;
+use graph::End;
+use graph::NodeIndex;
+
+// A node or record number, to count with. A call, since `a[i] as usize` would ask that the element fits.
+fn widened(x: u16) -> usize
+    ensures { λ r. ⌜ r ≡ x ⌝ }
+{
+    x as usize
+}
+
+// Node v joins the two ends, and its edges the edges that stand, if there is room for them: how many there are then; over 2,048 are too many.
+fn link_record(
+    front: bool,
+    qubits: InvolvedQubits,
+    v: NodeIndex,
+    edges: usize,
+    first: &mut [u16; 3],
+    last: &mut [u16; 3],
+    from: &mut [u16; 2048],
+    to: &mut [u16; 2048],
+    first_node: &mut [u16; 64],
+    last_node: &mut [u16; 64],
+    first_block: &mut [bool; 512],
+    last_block: &mut [bool; 512],
+    others: &mut [u16; 64],
+) -> usize
+    requires { ⌜ (v .0 < 512) × (edges ≤ 2048) × (length (now from) ≡ 2048) × (length (now to) ≡ 2048) × (length (now others) ≡ 64) × (EndFits (v .0) (now «first_node») (endState (now first)) (now «first_block»)) × (EndFits (v .0) (now «last_node») (endState (now last)) (now «last_block»)) ⌝ }
+    ensures { λ r. ⌜ RecordLinked front (v .0) (linkAt front qubits (v .0) (endOf (now («first_node» .entry)) (endState (now (first .entry))) (now («first_block» .entry))) (endOf (now («last_node» .entry)) (endState (now (last .entry))) (now («last_block» .entry)))) (record { count = edges; from = now (from .entry); to = now (to .entry) }) (record { edges = r; first = endState (now (first .exit)); last = endState (now (last .exit)) }) (now (from .exit)) (now (to .exit)) (now («first_node» .exit)) (now («last_node» .exit)) (now («first_block» .exit)) (now («last_block» .exit)) × (length (now (others .exit)) ≡ 64) ⌝ }
+{
+    let k = join_record(
+        front,
+        qubits,
+        v,
+        first,
+        last,
+        first_node,
+        last_node,
+        first_block,
+        last_block,
+        &mut *others,
+    );
+    let total = edges + k;
+    if 2048 < total {
+        return total;
+    }
+    add_edges(front, v, &*others, k, from, to, edges);
+    total
+}
+
+// The refusal of the record after k accepted ones.
+fn links_stopped(k: usize, r: Refusal) -> LinkedRecords
+    ensures { λ x. ⌜ x ≡ linksStopped k r ⌝ }
+{
+    LinkedRecords {
+        accepted: k,
+        answer: LinkAnswer::Refused(r),
+        edges: Edges {
+            count: 0,
+            from: [0; 2048],
+            to: [0; 2048],
+        },
+        first: graph::no_end(),
+        last: graph::no_end(),
+    }
+}
+
+// The ends and edges of k nodes that the arrays and numbers hold.
+fn links_held(
+    k: usize,
+    count: usize,
+    first: [u16; 3],
+    last: [u16; 3],
+    from: [u16; 2048],
+    to: [u16; 2048],
+    first_node: [u16; 64],
+    last_node: [u16; 64],
+    first_block: [bool; 512],
+    last_block: [bool; 512],
+) -> LinkedRecords
+    ensures { λ r. ⌜ r ≡ linksFrom k (record { count = count; from = from; to = to }) (endOf «first_node» (endState first) «first_block») (endOf «last_node» (endState last) «last_block») ⌝ }
+{
+    LinkedRecords {
+        accepted: k,
+        answer: LinkAnswer::Done,
+        edges: Edges { count, from, to },
+        first: End {
+            node: first_node,
+            all: NodeIndex(first[ALL]),
+            block: first_block,
+        },
+        last: End {
+            node: last_node,
+            all: NodeIndex(last[ALL]),
+            block: last_block,
+        },
+    }
+}
+
+// Whether the block has a node.
+fn has_node(block: &[bool; 512]) -> bool
+    requires { ⌜ length (now block) ≡ 512 ⌝ }
+    ensures { λ r. ⌜ r ≡ anyOf (λ b. b) (now (block .entry)) ⌝ }
+{
+    let mut v: usize = 0;
+    while v < 512 {
+        if block[v] {
+            return true;
+        }
+        v += 1;
+    }
+    false
+}
+
+// The numbers of an end of a graph. Nothing is mapped from 64 on, and of the block it is said only whether it has a node.
+fn end_numbers(e: End) -> [u16; 3]
+    ensures { λ r. ⌜ endState r ≡ endStateOf e ⌝ }
+{
+    let all = e.all;
+    let block = e.block;
+    if has_node(&block) {
+        return [all.0, 64, 65534];
+    }
+    [all.0, 64, 65535]
+}
+
+// Whether an entry is absent or a node below n.
+fn is_below(x: u16, n: usize) -> bool
+    ensures { λ r. ⌜ r ≡ ifPresent (λ u. ltb u n) x ⌝ }
+{
+    if x == 65535 {
+        return true;
+    }
+    widened(x) < n
+}
+
+// Whether the end names only nodes below n.
+fn names_below(e: End, n: usize) -> bool
+    ensures { λ r. ⌜ r ≡ allOf (ifPresent (λ u. ltb u n)) (named e) ⌝ }
+{
+    let all = e.all;
+    if !is_below(all.0, n) {
+        return false;
+    }
+    let node = e.node;
+    let mut q: usize = 0;
+    while q < 64 {
+        if !is_below(node[q], n) {
+            return false;
+        }
+        q += 1;
+    }
+    true
+}
+
+// Whether they are the ends and edges of a graph with n nodes.
+fn links_fit(n: usize, edges: Edges, first: End, last: End) -> bool
+    ensures { λ r. ⌜ r ≡ linksFit n edges first last ⌝ }
+{
+    if 2048 < edges.count {
+        return false;
+    }
+    if names_below(first, n) {
+        return names_below(last, n);
+    }
+    false
+}
+
+// A record at this end with these qubits, as node v, on the ends and edges of a graph with v nodes: 11 where they are not such, 5, 6.
+pub fn link_node(
+    front: bool,
+    qubits: InvolvedQubits,
+    v: NodeIndex,
+    edges: Edges,
+    first: End,
+    last: End,
+) -> LinkedRecords
+    ensures { λ r. ⌜ r ≡ linkNode front qubits v edges first last ⌝ }
+{
+    let n = v.0 as usize;
+    if !links_fit(n, edges, first, last) {
+        return links_stopped(n, Refusal::Unsound);
+    }
+    if 512 <= n {
+        return links_stopped(n, Refusal::TooManyNodes);
+    }
+    let mut first_numbers = end_numbers(first);
+    let mut last_numbers = end_numbers(last);
+    let mut from = edges.from;
+    let mut to = edges.to;
+    let mut first_node = first.node;
+    let mut last_node = last.node;
+    let mut first_block = first.block;
+    let mut last_block = last.block;
+    let mut others = [0u16; 64];
+    let count = link_record(
+        front,
+        qubits,
+        v,
+        edges.count,
+        &mut first_numbers,
+        &mut last_numbers,
+        &mut from,
+        &mut to,
+        &mut first_node,
+        &mut last_node,
+        &mut first_block,
+        &mut last_block,
+        &mut others,
+    );
+    if 2048 < count {
+        return links_stopped(n, Refusal::TooManyEdges(0));
+    }
+    links_held(
+        n + 1,
+        count,
+        first_numbers,
+        last_numbers,
+        from,
+        to,
+        first_node,
+        last_node,
+        first_block,
+        last_block,
+    )
+}
+
+// The file's records with these numbers, one after the other, as nodes 0, 1, 2, ..: 4, 5, 6.
+pub fn link_records(file: &[u8], order: &[u16]) -> LinkedRecords
+    ensures { λ r. ⌜ r ≡ linkRecords (now (file .entry)) noLinks (now (order .entry)) ⌝ }
+{
+    let mut count: usize = 0;
+    let mut first = [65535u16, 0, 65535];
+    let mut last = [65535u16, 0, 65535];
+    let mut from = [0u16; 2048];
+    let mut to = [0u16; 2048];
+    let mut first_node = [65535u16; 64];
+    let mut last_node = [65535u16; 64];
+    let mut first_block = [false; 512];
+    let mut last_block = [false; 512];
+    let mut others = [0u16; 64];
+    let mut k: usize = 0;
+    while k < order.len() {
+        let i = widened(order[k]);
+        let parsed = file::parse_record(file::part_of(file, i));
+        let Parsed::Record(r) = parsed else {
+            return links_stopped(k, Refusal::BadRecord(i));
+        };
+        if 512 <= k {
+            return links_stopped(k, Refusal::TooManyNodes);
+        }
+        let front = r.front;
+        let qubits = r.qubits;
+        let v = NodeIndex(k as u16);
+        count = link_record(
+            front,
+            qubits,
+            v,
+            count,
+            &mut first,
+            &mut last,
+            &mut from,
+            &mut to,
+            &mut first_node,
+            &mut last_node,
+            &mut first_block,
+            &mut last_block,
+            &mut others,
+        );
+        if 2048 < count {
+            return links_stopped(k, Refusal::TooManyEdges(i));
+        }
+        k += 1;
+    }
+    links_held(
+        k,
+        count,
+        first,
+        last,
+        from,
+        to,
+        first_node,
+        last_node,
+        first_block,
+        last_block,
+    )
+}

@@ -1,0 +1,168 @@
+-- The register maps of one record, and of the records that are left of a list, from what `enter_record` promises. Assumes nothing.
+use mathlib.Core.Path.{_≡_, refl, sym, _∙_, ap, subst}
+use mathlib.Core.Bool.{Bool, true, false, cond, not, _&&_, _||_}
+use mathlib.Core.List.{List, [], _∷_}
+use Prim.Native.Nat.{ℕ, _+_, _≤_, _<_}
+use native.Mathlib.Numerals.{add-one}
+use lib.Dec.{ltb, leb}
+use lib.ListN.{length, getD, drop, replicate, drop-of-length-le}
+use lib.Seq.{drop-cons}
+use borrow.Author.Tests.{le-leb, lt-leb, le-ltb, ltb-false, leb-true, not-true, not-false}
+use Rattle.file.specs.Lists.{allOf}
+use Rattle.file.specs.Pairs.{recordAt}
+use Rattle.file.specs.Records.{front, classicalOf}
+use Rattle.file.specs.declared.InvolvedClassical.{InvolvedClassical}
+use Rattle.file.specs.declared.InvolvedClassical.the-variants.{None}
+use Rattle.graph.specs.declared.NodeIndex.{NodeIndex}
+use Rattle.graph.specs.declared.Registers.{Registers}
+use Rattle.graph.specs.Dag.{Entry, entriesOf, noRegisters}
+use Rattle.graph.specs.Soundness.{keysDistinct, registerMapRule}
+use Rattle.graph.proofs.BoolLaws.{and-l, and-r, or-l, or-r}
+use Rattle.graph.proofs.SizeLaws.{RegistersSized}
+use Rattle.registers.specs.declared.Registered.{Registered}
+use Rattle.registers.specs.Registers.{Maps, withEntries, registersAfter, mapsAfter, mapsPass, stored, stopped, registersFrom, registerRecords, registerRecord}
+use Rattle.registers.specs.RegisterMaps.{registers, Fits, EndsBecome, pass}
+use Rattle.registers.proofs.RegisterLaws.{ends-nothing, ends-fit, fits-none}
+
+-- a map passes 256, by the counts of first and last
+abbrev pub countsPass : Registers → Registers → Bool
+countsPass first last = ltb 256 (first .count) || ltb 256 (last .count)
+
+counts-facing : (f : Bool) (first last : Registers) → pass (cond f first last) (cond f last first) ≡ countsPass first last
+counts-facing true first last = refl
+counts-facing false first last = or-swap (ltb 256 (last .count)) (ltb 256 (first .count))
+  where
+    or-swap : (p q : Bool) → (p || q) ≡ (q || p)
+    or-swap true true = refl
+    or-swap true false = refl
+    or-swap false true = refl
+    or-swap false false = refl
+
+counts-fit : (first last : Registers) → Fits first → Fits last → countsPass first last ≡ false
+counts-fit first last f g = rw (le-ltb _ _ (f .room), le-ltb _ _ (g .room)) refl
+
+same-maps : {k : ℕ} {first first′ last last′ : Registers} → first ≡ first′ → last ≡ last′
+    → _≡_ {A = Registered} (record { accepted = k; first = first; last = last }) (record { accepted = k; first = first′; last = last′ })
+same-maps {k} p q = λ i. record { accepted = k; first = p i; last = q i }
+
+-- the maps that the record s as node v left
+module _ (s : List ℕ) (v : ℕ) (first last first′ last′ : Registers) (become : EndsBecome (front s) (classicalOf s) s v first last first′ last′) where
+  pub passes : (b : Bool) → countsPass first′ last′ ≡ b → mapsPass (mapsAfter s v first last) ≡ b
+  unfolding registersAfter
+  passes b h = sym (become .both .passes) ∙ counts-facing (front s) first′ last′ ∙ h
+
+  module _ (room : countsPass first′ last′ ≡ false) where
+    kept : (f : Bool) (r : Maps) → cond f first′ last′ ≡ withEntries (cond f first last) (r .near) → cond f last′ first′ ≡ withEntries (cond f last first) (r .far)
+        → (k : ℕ) → record { accepted = k; first = first′; last = last′ } ≡ stored f k first last r
+    kept true r p q k = same-maps p q
+    kept false r p q k = same-maps q p
+
+    pub is-stored : (k : ℕ) → record { accepted = k; first = first′; last = last′ } ≡ stored (front s) k first last (mapsAfter s v first last)
+    unfolding registersAfter
+    is-stored k =
+        let z : pass (cond (front s) first′ last′) (cond (front s) last′ first′) ≡ false = counts-facing (front s) first′ last′ ∙ room in
+        kept (front s) (mapsAfter s v first last) (become .both .near-map z) (become .both .far-map z) k
+
+    pub fit : Fits first → Fits last → Fits first′ × Fits last′
+    fit f g = ends-fit (front s) (classicalOf s) s v first last first′ last′ f g become
+        (ltb-false 256 (first′ .count) (or-l (ltb 256 (first′ .count)) (ltb 256 (last′ .count)) room))
+        (ltb-false 256 (last′ .count) (or-r (ltb 256 (first′ .count)) (ltb 256 (last′ .count)) room))
+
+-- the promise of `enter_record`, by what the record says
+pub by-record : (s : List ℕ) (v : ℕ) (first last first′ last′ : Registers) (f : Bool) (k : InvolvedClassical) → f ≡ front s → k ≡ classicalOf s
+    → EndsBecome f k s v first last first′ last′ → EndsBecome (front s) (classicalOf s) s v first last first′ last′
+by-record s v first last first′ last′ f k p q e =
+    subst (λ (x : Bool). EndsBecome x (classicalOf s) s v first last first′ last′) p (subst (λ (x : InvolvedClassical). EndsBecome f x s v first last first′ last′) q e)
+
+-- ---- A list of records: before the k-th, what is left gives what the whole list gives
+
+pub record Registering (file order : List ℕ) (k : ℕ) (first last : Registers) : Type 0 where
+  pub first-fits : Fits first
+  pub last-fits : Fits last
+  pub same : registersFrom file (record { accepted = k; first = first; last = last }) (drop k order) ≡ registerRecords file order
+
+pub begin : (file order : List ℕ) → Registering file order 0 (registers 0 (replicate 256 0) (replicate 256 0) (replicate 256 0)) (registers 0 (replicate 256 0) (replicate 256 0) (replicate 256 0))
+unfolding noRegisters
+begin file order = record { first-fits = fits-none; last-fits = fits-none; same = refl }
+
+module _ (file order : List ℕ) (k : ℕ) (first last : Registers) (before : Registering file order k first last) where
+  pub finish : length order ≤ k → record { accepted = k; first = first; last = last } ≡ registerRecords file order
+  unfolding registersFrom
+  finish h = let z : drop k order ≡ [] = drop-of-length-le order {i = k} h in rw z at (before .same)
+
+  module _ (more : k < length order) where
+    turn : registersFrom file (record { accepted = k; first = first; last = last }) (getD order k 0 ∷ drop (k + 1) order) ≡ registerRecords file order
+    turn = rw (add-one, ← drop-cons order k 0 more) (before .same)
+
+    pub over : 512 ≤ k → stopped k ≡ registerRecords file order
+    unfolding registersFrom
+    over h = rw (le-leb 512 k h, registersFrom) at turn
+
+    module _ (free : k < 512) (i : ℕ) (is : i ≡ getD order k 0) (s : List ℕ) (part : s ≡ recordAt file i) where
+      here : s ≡ recordAt file (getD order k 0)
+      here = part ∙ ap (recordAt file) is
+
+      module _ (first′ last′ : Registers) (become : EndsBecome (front s) (classicalOf s) s k first last first′ last′) where
+        pub refused : countsPass first′ last′ ≡ true → stopped k ≡ registerRecords file order
+        unfolding registersFrom
+        refused h = rw (lt-leb 512 k free, ← here, passes s k first last first′ last′ become true h, registersFrom) at turn
+
+        pub again : countsPass first′ last′ ≡ false → Registering file order (k + 1) first′ last′
+        unfolding registersFrom
+        again h =
+            let f = fit s k first last first′ last′ become h (before .first-fits) (before .last-fits) in
+            record {
+              first-fits = f .0;
+              last-fits = f .1;
+              same = rw (is-stored s k first last first′ last′ become h (k + 1))
+                  (rw (lt-leb 512 k free, ← here, passes s k first last first′ last′ become false h, registersFrom) at turn);
+            }
+
+      -- a record without registers
+      pub skip : (c : InvolvedClassical) → c ≡ classicalOf s → c ≡ None → Registering file order (k + 1) first last
+      skip c p q = again first last (ends-nothing (front s) (classicalOf s) s k first last (sym p ∙ q) (before .first-fits) (before .last-fits))
+          (counts-fit first last (before .first-fits) (before .last-fits))
+
+-- ---- One record on maps that are handed in
+
+-- the clauses on one map
+pub may-be-lent : (v : ℕ) (r : Registers) → RegistersSized r → registerMapRule v r ≡ true → Fits r
+may-be-lent v r z h =
+    let below : Bool = allOf (λ (x : Entry). ltb (x .node) v) (entriesOf r) in
+    record {
+      room = leb-true (r .count) 256 (and-l (leb (r .count) 256) (keysDistinct r && below) h);
+      keys = and-l (keysDistinct r) below (and-r (leb (r .count) 256) (keysDistinct r && below) h);
+      sized = record { name = z .name; index = z .index; node = z .node };
+    }
+
+-- .. and on both, by the tests of each
+pub both-maps : (n v : ℕ) (first last : Registers) (a b : Bool) → n ≡ v → a ≡ registerMapRule n first → b ≡ registerMapRule n last → (a && b) ≡ (registerMapRule v first && registerMapRule v last)
+both-maps n v first last a b w p q = ap (λ (x : Bool). x && b) (p ∙ ap (λ (m : ℕ). registerMapRule m first) w) ∙ ap (λ (x : Bool). registerMapRule v first && x) (q ∙ ap (λ (m : ℕ). registerMapRule m last) w)
+
+module _ (first last : Registers) (v : NodeIndex) (b : Bool) (test : b ≡ (registerMapRule (v .0) first && registerMapRule (v .0) last)) where
+  pub both-lent : RegistersSized first → RegistersSized last → not b ≡ false → Fits first × Fits last
+  both-lent z y t =
+      let h = sym test ∙ not-false b t in (
+        may-be-lent (v .0) first z (and-l (registerMapRule (v .0) first) (registerMapRule (v .0) last) h),
+        may-be-lent (v .0) last y (and-r (registerMapRule (v .0) first) (registerMapRule (v .0) last) h),
+      )
+
+  module _ (s : List ℕ) where
+    -- the rule's answer by that test
+    answer : registerRecord first last s v ≡ cond (b && not (mapsPass (mapsAfter s (v .0) first last))) (stored (front s) 1 first last (mapsAfter s (v .0) first last)) (record { accepted = 0; first = first; last = last })
+    unfolding registerRecord
+    answer = by (registerMapRule (v .0) first) (registerMapRule (v .0) last) b (not (mapsPass (mapsAfter s (v .0) first last))) _ _ test
+      where
+        by : (p q b d : Bool) (x y : Registered) → b ≡ (p && q) → cond (p && q && d) x y ≡ cond (b && d) x y
+        by true q b d x y e = ap (λ (t : Bool). cond (t && d) x y) (sym e)
+        by false q b d x y e = ap (λ (t : Bool). cond (t && d) x y) (sym e)
+
+    pub not-maps : not b ≡ true → record { accepted = 0; first = first; last = last } ≡ registerRecord first last s v
+    not-maps t = rw (answer, not-true b t) refl
+
+    module _ (t : not b ≡ false) (first′ last′ : Registers) (become : EndsBecome (front s) (classicalOf s) s (v .0) first last first′ last′) where
+      pub too-many : countsPass first′ last′ ≡ true → record { accepted = 0; first = first; last = last } ≡ registerRecord first last s v
+      too-many h = rw (answer, not-false b t, passes s (v .0) first last first′ last′ become true h) refl
+
+      pub entered : countsPass first′ last′ ≡ false → record { accepted = 1; first = first′; last = last′ } ≡ registerRecord first last s v
+      entered h = rw (answer, not-false b t, passes s (v .0) first last first′ last′ become false h) (is-stored s (v .0) first last first′ last′ become h 1)

@@ -1,0 +1,109 @@
+-- `registers::maps::register_records` meets its contract. Assumes nothing.
+use Rattle.registers.specs.RegisterMaps.{registers}
+use Rattle.registers.proofs.MapLaws.{Registering, begin, over, skip, by-record, refused, again, finish}
+use mathlib.Core.Path.{sym, _∙_}
+use Prim.Native.Nat.{_-_}
+use lib.ListN.{length}
+use native.Mathlib.Omega.{arith}
+use borrow.Author.Needs.{needs}
+use Rattle.registers.proofs.maps.register_records.Statement.{statement}
+use Rattle.registers.proofs.maps.register_records.Tie as tie
+
+abbrev Inv-loop : tie.InvT-loop
+Inv-loop file order first-name₀ first-index₀ first-node₀ first-hints₀ last-name₀ last-index₀ last-node₀ last-hints₀ first₀ last₀ k₀ first-name first-index first-node first-hints last-name last-index last-node last-hints first last k =
+    Registering file order k (registers first first-name first-index first-node) (registers last last-name last-index last-node)
+
+abbrev μ-loop : tie.MeasureT-loop
+μ-loop file order first-name₀ first-index₀ first-node₀ first-hints₀ last-name₀ last-index₀ last-node₀ last-hints₀ first₀ last₀ k₀ first-name first-index first-node first-hints last-name last-index last-node last-hints first last k =
+    length order - k
+
+loop-holds : tie.Need-loop-holds Inv-loop μ-loop
+loop-holds c = begin _ _
+
+no-maps-requires : tie.Need-no-maps-requires Inv-loop μ-loop
+no-maps-requires c κs = tt
+
+returns : tie.Need-returns Inv-loop μ-loop
+returns c = c .no-maps .ensures ∙ over _ _ _ _ _ (c .before .before .before .loop .inv) (c .before .before .loop-test .taken) (c .before .if1 .taken)
+
+mul-widened : tie.Need-mul-widened Inv-loop μ-loop
+mul-widened c = search needs
+
+shared-slice-read-widened : tie.Need-shared-slice-read-widened Inv-loop μ-loop
+shared-slice-read-widened c = search needs
+
+widened-requires : tie.Need-widened-requires Inv-loop μ-loop
+widened-requires c κs = tt
+
+part-of-requires : tie.Need-part-of-requires Inv-loop μ-loop
+part-of-requires c κs = tt
+
+involved-classical-requires : tie.Need-involved-classical-requires Inv-loop μ-loop
+involved-classical-requires c κs = tt
+
+cast-t23 : tie.Need-cast-t23 Inv-loop μ-loop
+cast-t23 c = omega (arith, c .before .before .before .before .if1 .left)
+
+add-k : tie.Need-add-k Inv-loop μ-loop
+add-k c = omega (arith, c .before .before .before .before .if1 .left)
+
+enum-told : tie.Need-enum-told Inv-loop μ-loop
+enum-told c = c .match .keys1
+
+loop-less : tie.Need-loop-less Inv-loop μ-loop
+loop-less c = omega (arith, c .before .before .before .before .before .before .before .loop-test .taken)
+
+loop-again : tie.Need-loop-again Inv-loop μ-loop
+loop-again c = skip _ _ _ _ _ (c .before .before .before .before .before .before .before .before .loop .inv) (c .before .before .before .before .before .before .before .loop-test .taken) (c .before .before .before .before .before .before .if1 .left) _ (c .before .before .before .before .widened .ensures) _ (c .before .before .before .part-of .ensures) _ (c .before .before .involved-classical .ensures) (c .enum-told .given .1)
+
+is-front-requires : tie.Need-is-front-requires Inv-loop μ-loop
+is-front-requires c κs = tt
+
+enter-record-requires : tie.Need-enter-record-requires Inv-loop μ-loop
+enter-record-requires c κs = let i = c .before .before .before .before .before .before .before .before .before .before .before .before .before .before .before .before .loop .inv in (i .first-fits, i .last-fits)
+
+maps-pass-requires : tie.Need-maps-pass-requires Inv-loop μ-loop
+maps-pass-requires c κs = tt
+
+no-maps-requires-2 : tie.Need-no-maps-requires-2 Inv-loop μ-loop
+no-maps-requires-2 c κs = tt
+
+returns-2 : tie.Need-returns-2 Inv-loop μ-loop
+returns-2 c = c .no-maps2 .ensures ∙ refused _ _ _ _ _ (c .before .before .before .before .before .before .before .before .before .before .before .before .before .before .before .before .before .before .before .before .loop .inv) (c .before .before .before .before .before .before .before .before .before .before .before .before .before .before .before .before .before .before .before .loop-test .taken) (c .before .before .before .before .before .before .before .before .before .before .before .before .before .before .before .before .before .before .if1 .left) _ (c .before .before .before .before .before .before .before .before .before .before .before .before .before .before .before .before .widened .ensures) _ (c .before .before .before .before .before .before .before .before .before .before .before .before .before .before .before .part-of .ensures) _ _ (by-record _ _ _ _ _ _ _ _ (c .before .before .before .before .before .before .before .before .before .before .before .before .is-front .ensures) (c .before .before .before .before .before .before .before .before .before .before .before .before .before .before .involved-classical .ensures) (c .before .before .before .enter-record .ensures)) (sym (c .before .before .maps-pass .ensures) ∙ c .before .if2 .taken)
+
+loop-less-2 : tie.Need-loop-less-2 Inv-loop μ-loop
+loop-less-2 c = omega (arith, c .before .before .before .before .before .before .before .before .before .before .before .before .before .before .before .before .before .before .loop-test .taken)
+
+loop-again-2 : tie.Need-loop-again-2 Inv-loop μ-loop
+loop-again-2 c = again _ _ _ _ _ (c .before .before .before .before .before .before .before .before .before .before .before .before .before .before .before .before .before .before .before .loop .inv) (c .before .before .before .before .before .before .before .before .before .before .before .before .before .before .before .before .before .before .loop-test .taken) (c .before .before .before .before .before .before .before .before .before .before .before .before .before .before .before .before .before .if1 .left) _ (c .before .before .before .before .before .before .before .before .before .before .before .before .before .before .before .widened .ensures) _ (c .before .before .before .before .before .before .before .before .before .before .before .before .before .before .part-of .ensures) _ _ (by-record _ _ _ _ _ _ _ _ (c .before .before .before .before .before .before .before .before .before .before .before .is-front .ensures) (c .before .before .before .before .before .before .before .before .before .before .before .before .before .involved-classical .ensures) (c .before .before .enter-record .ensures)) (sym (c .before .maps-pass .ensures) ∙ c .if2 .left)
+
+returns-3 : tie.Need-returns-3 Inv-loop μ-loop
+returns-3 c = finish _ _ _ _ _ (c .before .loop .inv) (c .loop-test .left)
+
+pub register-records-spec : {M : Type 1} → statement M
+register-records-spec =
+    tie.close
+    (tie.spec
+    Inv-loop
+    μ-loop
+    loop-holds
+    no-maps-requires
+    returns
+    mul-widened
+    shared-slice-read-widened
+    widened-requires
+    part-of-requires
+    involved-classical-requires
+    cast-t23
+    add-k
+    enum-told
+    loop-less
+    loop-again
+    is-front-requires
+    enter-record-requires
+    maps-pass-requires
+    no-maps-requires-2
+    returns-2
+    loop-less-2
+    loop-again-2
+    returns-3)
