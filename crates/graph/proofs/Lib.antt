@@ -6,10 +6,3 @@ pub mod SizeLaws
 pub mod SoundnessLaws
 pub mod CheckLaws
 pub mod AnswerLaws
-pub mod MarkLaws
-pub mod BufferLaws
-pub mod ReachLaws
-pub mod QueryLaws
-pub mod ConversionLaws
-pub mod CircuitLaws
-pub mod CircuitTheorems

@@ -1,16 +1,8 @@
-// The circuit dependency graph with two open ends: its types, which graphs are sound, the queries and the conversion to a circuit. The rules are in specs/.
+// The circuit dependency graph with two open ends: its types, the empty graph, and which graphs are sound. The rules are in specs/.
 // Every array holds plain numbers, so that a part of the graph can be lent to a function in place.
 
-mod conversion;
-mod queries;
 pub mod soundness;
 
-pub use conversion::to_circuit;
-use file::Refusal;
-pub use queries::blocking_predecessors;
-pub use queries::execution_blocked;
-pub use queries::new_front_layer;
-pub use queries::successors;
 pub use soundness::is_register_map;
 pub use soundness::is_sound;
 ghost use mathlib.Core.Path.{_≡_};
@@ -62,12 +54,6 @@ pub struct Registers {
 pub struct Commuting {
     pub count: usize,
     pub list: [u16; 512],
-}
-
-// What a query answers: how many entries it wrote to the lent buffer.
-pub enum Query {
-    Entries(usize),
-    Refused(Refusal),
 }
 
 #[repr(C)]

@@ -5,9 +5,9 @@ use Rattle.file.specs.Refusals.{numberOf, valueOf}
 use Rattle.file.specs.declared.Refusal.{Refusal}
 use Rattle.file.specs.declared.RefusalValue.{RefusalValue}
 use Rattle.file.specs.declared.RefusalValue.the-variants.{Nothing, At}
-use Rattle.graph.specs.declared.Query.{Query}
-use Rattle.graph.specs.declared.Query.the-variants.{Entries, Refused as NotAnswered}
-use Rattle.graph.specs.Queries.{Lent}
+use Rattle.queries.specs.declared.Query.{Query}
+use Rattle.queries.specs.declared.Query.the-variants.{Entries, Refused as NotAnswered}
+use Rattle.queries.specs.Queries.{Lent}
 use Rattle.insertion.specs.declared.Answer.{Answer}
 use Rattle.insertion.specs.declared.Answer.the-variants.{Node, Refused as NotInserted}
 use Rattle.insertion.specs.declared.Inserted.{Inserted}

@@ -4,9 +4,9 @@ ghost use Rattle.host.specs.Answers.{numberOr, accepts, refuses, ofQuery
 use crate::HostAnswer;
 use file::Refusal;
 use file::RefusalValue;
-use graph::Query;
 use insertion::Answer;
 use insertion::Outcome;
+use queries::Query;
 use walk::BlockCount;
 use walk::NextBlock;
 

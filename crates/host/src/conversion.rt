@@ -1,6 +1,6 @@
 // From a circuit and to a circuit.
 ghost use mathlib.Core.Path.{_≡_};
-ghost use Rattle.graph.specs.Conversion.{toCircuit};
+ghost use Rattle.queries.specs.Conversion.{toCircuit};
 ghost use Rattle.insertion.specs.Conversion.{fromCircuit};
 ghost use Rattle.host.specs.Answers.{graphLoaded, lent};
 use crate::HostAnswer;
@@ -26,6 +26,6 @@ pub extern "C" fn sawhekonu_from_circuit(file: &[u8]) -> HostGraph
 pub extern "C" fn sawhekonu_to_circuit(dag: CircuitDag, buffer: &mut [u16]) -> HostAnswer
     ensures { λ r. ⌜ record { answer = r; buffer = now (buffer .exit) } ≡ lent (toCircuit dag (now (buffer .entry))) ⌝ }
 {
-    let x = graph::to_circuit(dag, buffer);
+    let x = queries::to_circuit(dag, buffer);
     of_query(x)
 }

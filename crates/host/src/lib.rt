@@ -6,7 +6,7 @@ mod answers;
 mod chains;
 mod conversion;
 mod inserting;
-mod queries;
+mod querying;
 mod walking;
 
 use graph::CircuitDag;

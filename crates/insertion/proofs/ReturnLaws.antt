@@ -21,11 +21,11 @@ use Rattle.file.specs.declared.FileCheck.the-variants.{Sound, Refused as BadFil
 use Rattle.graph.specs.declared.CircuitDag.{CircuitDag}
 use Rattle.graph.specs.declared.Nodes.{Nodes}
 use Rattle.graph.specs.Dag.{empty, size, nodeAt, placeOf, node}
-use Rattle.graph.specs.Conversion.{placeIn, sortByPlace, circuitOf}
+use Rattle.queries.specs.Conversion.{placeIn, sortByPlace, circuitOf}
 use Rattle.graph.proofs.BoolLaws.{bool-cases, clash-bool, not-false, not-flip, split-lt}
 use Rattle.graph.proofs.ListLaws.{all-here, all-fails, all-at, length-countFrom, length-upTo, upTo-at}
 use Rattle.graph.proofs.SoundnessLaws.{all-join}
-use Rattle.graph.proofs.BufferLaws.{keep-append}
+use Rattle.queries.proofs.BufferLaws.{keep-append}
 use Rattle.insertion.specs.declared.Answer.{Answer}
 use Rattle.insertion.specs.declared.Answer.the-variants.{Node as IsNode, Refused as NotInserted}
 use Rattle.insertion.specs.declared.Outcome.the-variants.{Done, Refused}
@@ -35,7 +35,7 @@ use Rattle.links.specs.Links.{nearAll}
 use Rattle.insertion.specs.Insertion.{grown}
 use Rattle.insertion.specs.Limits.{insertAs, edgesPass, registersPass}
 use Rattle.insertion.specs.Load.{notLoaded, insertRecords}
-use Rattle.graph.proofs.CircuitLaws.{keep-split, place-here}
+use Rattle.queries.proofs.CircuitLaws.{keep-split, place-here}
 use Rattle.insertion.specs.Conversion.{broken, convert, convertChecked, fromCircuit}
 use Rattle.insertion.specs.Circuits.{insertionOrder, recordOfNode, CircuitAgain, ReturnsCircuit}
 

@@ -8,7 +8,7 @@ use Rattle.file.specs.Lists.{upTo}
 use Rattle.file.specs.Pairs.{countOf, recordAt}
 use Rattle.file.specs.Records.{kind, qubitForm, label}
 use Rattle.graph.specs.Dag.{Node, nodeAt}
-use Rattle.graph.specs.Conversion.{definitionsFirst, circuitOf}
+use Rattle.queries.specs.Conversion.{definitionsFirst, circuitOf}
 use Rattle.insertion.specs.declared.Outcome.the-variants.{Done}
 use Rattle.insertion.specs.Conversion.{fromCircuit}
 

@@ -9,7 +9,7 @@ use Rattle.file.specs.declared.Refusal.the-variants.{BadRecord}
 use Rattle.file.specs.declared.FileCheck.{FileCheck}
 use Rattle.file.specs.declared.FileCheck.the-variants.{Sound, Refused as BadFile}
 use Rattle.graph.specs.Dag.{empty}
-use Rattle.graph.specs.Conversion.{definitionsFirst}
+use Rattle.queries.specs.Conversion.{definitionsFirst}
 use Rattle.insertion.specs.declared.Loaded.{Loaded}
 use Rattle.insertion.specs.Load.{notLoaded, insertRecords}
 

@@ -8,9 +8,9 @@ use Rattle.file.specs.Pairs.{numberAt}
 use Rattle.file.specs.Records.{definitionRule, qubitRule, entryBefore, ascendFrom, setRule, tailRule, recordRule, qubitsBy, classicalOf}
 use Rattle.graph.specs.Dag.{atQubit, noEnd, noRegisters, empty}
 use Rattle.graph.specs.Soundness.{ascends, sound}
-use Rattle.graph.specs.Conversion.{placeIn, sortByPlace, circuitOf}
-use Rattle.graph.specs.Reach.{reachedBy, blocking}
-use Rattle.graph.specs.Queries.{remove, layerAfter, newFrontLayer}
+use Rattle.queries.specs.Conversion.{placeIn, sortByPlace, circuitOf}
+use Rattle.queries.specs.Reach.{reachedBy, blocking}
+use Rattle.queries.specs.Queries.{remove, layerAfter, newFrontLayer}
 use Rattle.registers.specs.Registers.{put, define, setKeys, registersAfter}
 use Rattle.links.specs.Links.{qubitsFrom, linkQubits, linkSet, mapped, linkAll}
 use Rattle.insertion.specs.Insertion.{grown}

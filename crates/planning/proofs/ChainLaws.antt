@@ -16,7 +16,7 @@ use Rattle.graph.specs.Dag.{absent, size}
 use Rattle.graph.specs.Soundness.{sound}
 use Rattle.graph.proofs.BoolLaws.{bool-cases, clash-bool, not-true, bool-ext, and-l}
 use Rattle.graph.proofs.ListLaws.{length-upTo, upTo-at}
-use Rattle.graph.proofs.BufferLaws.{keep-yes, keep-no}
+use Rattle.queries.proofs.BufferLaws.{keep-yes, keep-no}
 use Rattle.insertion.proofs.ConversionLaws.{keep-none}
 use Rattle.walk.specs.declared.BlockCount.the-variants.{Blocks}
 use Rattle.walk.specs.Blocks.{Walked, blocks, numberFrom, blockNumbers}

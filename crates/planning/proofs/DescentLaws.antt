@@ -13,13 +13,13 @@ use Rattle.file.specs.Lists.{onto}
 use Rattle.file.specs.declared.Refusal.{Refusal}
 use Rattle.file.specs.declared.Refusal.the-variants.{Unsound, ShortBuffer}
 use Rattle.graph.specs.declared.CircuitDag.{CircuitDag}
-use Rattle.graph.specs.declared.Query.the-variants.{Entries, Refused}
+use Rattle.queries.specs.declared.Query.the-variants.{Entries, Refused}
 use Rattle.graph.specs.Dag.{absent, size}
 use Rattle.graph.specs.Soundness.{sound}
-use Rattle.graph.specs.Queries.{Lent}
-use Rattle.graph.specs.Marks.{putAt}
+use Rattle.queries.specs.Queries.{Lent}
+use Rattle.queries.specs.Marks.{putAt}
 use Rattle.graph.proofs.BoolLaws.{bool-cases, clash-bool, and-l, and-r, and-intro, split-lt}
-use Rattle.graph.proofs.BufferLaws.{put-none, put-one, put-put, length-put, answers-short, answers-whole}
+use Rattle.queries.proofs.BufferLaws.{put-none, put-one, put-put, length-put, answers-short, answers-whole}
 use Rattle.links.proofs.LinkLoops.{any-default}
 use Rattle.walk.specs.declared.BlockCount.{BlockCount}
 use Rattle.walk.specs.declared.BlockCount.the-variants.{Blocks, Refused as NotWalked}

@@ -6,10 +6,10 @@ use lib.IntN.{negsuc}
 use lib.ListN.{replicate}
 use Rattle.file.specs.Lists.{members}
 use Rattle.graph.specs.declared.CircuitDag.{CircuitDag}
-use Rattle.graph.specs.declared.Query.the-variants.{Entries}
+use Rattle.queries.specs.declared.Query.the-variants.{Entries}
 use Rattle.graph.specs.Dag.{Node, absent, edge, entry, nodesOf, edgesOf, entriesOf, atQubit}
-use Rattle.graph.specs.Queries.{newFrontLayer}
-use Rattle.graph.specs.Conversion.{circuitOf}
+use Rattle.queries.specs.Queries.{newFrontLayer}
+use Rattle.queries.specs.Conversion.{circuitOf}
 use Rattle.insertion.specs.Calls.{final}
 use Rattle.walk.specs.declared.BlockCount.the-variants.{Blocks}
 use Rattle.walk.specs.Blocks.{wholeWalk, blocks, blockNumbers}

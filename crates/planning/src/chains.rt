@@ -10,7 +10,7 @@ ghost use Rattle.planning.specs.Descents.{InBlock, Before, Smallest, Des
 use file::Refusal;
 use graph::CircuitDag;
 use graph::NodeIndex;
-use graph::Query;
+use queries::Query;
 use walk::BlockCount;
 
 // A number as an index. A call, since `a[i] as usize` would ask that the element fits.

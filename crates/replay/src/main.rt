@@ -9,12 +9,12 @@ use graph::CircuitDag;
 use graph::Commuting;
 use graph::End;
 use graph::NodeIndex;
-use graph::Query;
 use graph::Registers;
 use insertion::Loaded;
 use insertion::Outcome;
 use libc::STDIN_FILENO;
 use libc::STDOUT_FILENO;
+use queries::Query;
 use walk::BlockCount;
 use walk::NextBlock;
 use walk::ParallelBlocks;
@@ -176,11 +176,11 @@ fn print_registers(title: &[u8], r: Registers) {
 fn print_node(g: CircuitDag, v: u16) {
     let mut buffer = [0u16; 512];
     let none = [0u16; 0];
-    let a = graph::successors(g, NodeIndex(v), &mut buffer);
+    let a = queries::successors(g, NodeIndex(v), &mut buffer);
     print_query(b"successors:", a, &buffer);
-    let b = graph::blocking_predecessors(g, &none, NodeIndex(v), &mut buffer);
+    let b = queries::blocking_predecessors(g, &none, NodeIndex(v), &mut buffer);
     print_query(b"predecessors:", b, &buffer);
-    let c = graph::execution_blocked(g, &none, NodeIndex(v), &mut buffer);
+    let c = queries::execution_blocked(g, &none, NodeIndex(v), &mut buffer);
     print_query(b"blocked by:", c, &buffer);
 }
 
@@ -311,11 +311,11 @@ fn print_queries(g: CircuitDag, v: u8, executed: &[u8], layer: &[u8]) {
     let m = numbers_of(layer, &mut line);
     let start: usize = 0;
     let node = wide(v) as u16;
-    let a = graph::execution_blocked(g, &done[start..k], NodeIndex(node), &mut buffer);
+    let a = queries::execution_blocked(g, &done[start..k], NodeIndex(node), &mut buffer);
     print_query(b"query, blocked by:", a, &buffer);
-    let b = graph::blocking_predecessors(g, &done[start..k], NodeIndex(node), &mut buffer);
+    let b = queries::blocking_predecessors(g, &done[start..k], NodeIndex(node), &mut buffer);
     print_query(b"predecessors:", b, &buffer);
-    let c = graph::new_front_layer(
+    let c = queries::new_front_layer(
         g,
         &done[start..k],
         &line[start..m],

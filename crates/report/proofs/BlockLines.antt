@@ -13,10 +13,10 @@ use Rattle.file.specs.declared.Refusal.{Refusal}
 use Rattle.graph.specs.declared.CircuitDag.{CircuitDag}
 use Rattle.graph.specs.Dag.{absent, size, hasEdge}
 use Rattle.graph.specs.Soundness.{sound}
-use Rattle.graph.specs.Reach.{blocking}
+use Rattle.queries.specs.Reach.{blocking}
 use Rattle.graph.proofs.BoolLaws.{bool-ext, not-true}
 use Rattle.graph.proofs.ListLaws.{member-marked, member-upTo, member-keep}
-use Rattle.graph.proofs.ReachLaws.{keep-same}
+use Rattle.queries.proofs.ReachLaws.{keep-same}
 use Rattle.insertion.specs.declared.Outcome.{Outcome}
 use Rattle.insertion.specs.declared.Outcome.the-variants.{Done, Refused as NotLoaded}
 use Rattle.insertion.specs.declared.Loaded.{Loaded}

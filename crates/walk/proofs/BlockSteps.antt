@@ -16,7 +16,7 @@ use Rattle.file.specs.Lists.{anyOf, keep, isEmpty, member, members, upTo}
 use Rattle.graph.specs.declared.CircuitDag.{CircuitDag}
 use Rattle.graph.specs.Dag.{Edge, edge, size, edgeAt, edgesOf, sameEdge, hasEdge}
 use Rattle.graph.specs.Soundness.{sound}
-use Rattle.graph.specs.Reach.{reachedBy, reached, blocking}
+use Rattle.queries.specs.Reach.{reachedBy, reached, blocking}
 use Rattle.graph.proofs.BoolLaws.{bool-cases, clash-bool, not-true, not-false, bool-ext, and-l, and-r, and-intro, or-cases, or-inl, or-inr, not-flip, eqb-same}
 use Rattle.graph.proofs.ListLaws.{any-here, any-later, any-at, at-any, any-upTo, upTo-any, any-members, members-any, member-marked, any-numbers, member-upTo, member-keep}
 use Rattle.insertion.proofs.SafeEnds.{all-same}

@@ -8,7 +8,7 @@ use Rattle.file.specs.Lists.{isEmpty, member}
 use Rattle.graph.specs.declared.CircuitDag.{CircuitDag}
 use Rattle.graph.specs.Dag.{size, hasEdge}
 use Rattle.graph.specs.Soundness.{sound}
-use Rattle.graph.specs.Reach.{blocking}
+use Rattle.queries.specs.Reach.{blocking}
 use Rattle.walk.proofs.Bounds.{any, any-ext}
 use Rattle.walk.proofs.Heights.{blocks, empty}
 use Rattle.walk.proofs.HeightSteps.{waits-by-edge}

@@ -14,7 +14,7 @@ use Rattle.graph.specs.Dag.{size}
 use Rattle.graph.specs.Soundness.{sound}
 use Rattle.graph.proofs.BoolLaws.{clash-bool, bool-ext, not-true, and-l, and-r, and-intro}
 use Rattle.graph.proofs.ListLaws.{members-all, member-marked}
-use Rattle.graph.proofs.BufferLaws.{keep-low}
+use Rattle.queries.proofs.BufferLaws.{keep-low}
 use Rattle.insertion.proofs.SafeEnds.{all-same}
 use Rattle.walk.specs.declared.ParallelBlocks.{ParallelBlocks}
 use Rattle.walk.specs.declared.NextBlock.the-variants.{Block, None}

@@ -16,7 +16,7 @@ use Rattle.file.specs.Lists.{anyOf, allOf, keep, consIf, isEmpty, onto, member,
 use Rattle.graph.specs.declared.CircuitDag.{CircuitDag}
 use Rattle.graph.specs.Dag.{size, hasEdge}
 use Rattle.graph.specs.Soundness.{sound}
-use Rattle.graph.specs.Reach.{blocking}
+use Rattle.queries.specs.Reach.{blocking}
 use Rattle.graph.proofs.BoolLaws.{bool-cases, clash-bool, bool-ext, not-true, not-false, and-l, and-r, and-intro, or-cases, or-inl, or-inr, flip-not, split-lt}
 use Rattle.graph.proofs.ListLaws.{at-any, at-none, members-any, any-members, member-marked}
 use Rattle.walk.specs.Blocks.{joined, marks}

@@ -10,7 +10,7 @@ use Rattle.file.specs.declared.Refusal.the-variants.{Absent, ShortBuffer, Unsou
 use Rattle.graph.specs.declared.CircuitDag.{CircuitDag}
 use Rattle.graph.specs.Dag.{absent, size, hasEdge}
 use Rattle.graph.specs.Soundness.{sound}
-use Rattle.graph.specs.Reach.{blocking}
+use Rattle.queries.specs.Reach.{blocking}
 use Rattle.walk.specs.declared.ParallelBlocks.{ParallelBlocks}
 use Rattle.walk.specs.declared.NextBlock.{NextBlock}
 use Rattle.walk.specs.declared.NextBlock.the-variants.{Block, None, Refused}

@@ -8,7 +8,7 @@ use lib.ListN.{length, getD}
 use Rattle.file.specs.Lists.{anyOf, keep, isEmpty, members, upTo}
 use Rattle.graph.specs.declared.CircuitDag.{CircuitDag}
 use Rattle.graph.specs.Dag.{size, hasEdge}
-use Rattle.graph.specs.Reach.{blocking}
+use Rattle.queries.specs.Reach.{blocking}
 
 -- the number of node v
 abbrev pub at : List ℕ → ℕ → ℕ

@@ -1,0 +1,7 @@
+pub mod MarkLaws
+pub mod BufferLaws
+pub mod ReachLaws
+pub mod QueryLaws
+pub mod ConversionLaws
+pub mod CircuitLaws
+pub mod CircuitTheorems

@@ -1,0 +1,86 @@
+use mathlib.Core.Path.{_≡_}
+use Prim.Native.Nat.{_-_, _<_}
+use Rattle.queries.proofs.MarkLaws.{Sweeping, sweeps-none, sweeps-one, sweeps-all, from-below}
+use native.Mathlib.Omega.{arith}
+use Prim.Native.Nat.{_-_}
+use borrow.Author.Needs.{needs}
+use Rattle.queries.proofs.queries.sweep_down.Statement.{statement}
+use Rattle.queries.proofs.queries.sweep_down.Tie as tie
+
+abbrev Inv-loop : tie.InvT-loop
+Inv-loop mark₀ near far m moved₀ i₀ mark moved i = Sweeping near far m mark₀ mark moved i m
+
+abbrev μ-loop : tie.MeasureT-loop
+μ-loop mark₀ near far m moved₀ i₀ mark moved i = i
+
+near-low : (c : tie.After-wide2 Inv-loop μ-loop) → c .before .before .wide .result < 512
+near-low c = omega (arith, c .before .before .before .before .before .loop .inv .ends .near-below (c .before .before .before .before .before .loop .i - 1) (omega (arith, c .before .before .before .before .loop-test .taken, c .before .before .before .before .before .loop .inv .top)), c .before .before .wide .ensures)
+
+far-low : (c : tie.After-wide2 Inv-loop μ-loop) → c .wide2 .result < 512
+far-low c = omega (arith, c .before .before .before .before .before .loop .inv .ends .far-below (c .before .before .before .before .before .loop .i - 1) (omega (arith, c .before .before .before .before .loop-test .taken, c .before .before .before .before .before .loop .inv .top)), c .wide2 .ensures)
+
+loop-holds : tie.Need-loop-holds Inv-loop μ-loop
+loop-holds c = sweeps-none _ _ _ _ (c .pre .0) (c .pre .1) _ (omega arith)
+
+sub-i : tie.Need-sub-i Inv-loop μ-loop
+sub-i c = search needs
+
+mul-wide : tie.Need-mul-wide Inv-loop μ-loop
+mul-wide c = search needs
+
+element-copy-out-wide : tie.Need-element-copy-out-wide Inv-loop μ-loop
+element-copy-out-wide c = search needs
+
+wide-requires : tie.Need-wide-requires Inv-loop μ-loop
+wide-requires c κs = search needs
+
+mul-wide-2 : tie.Need-mul-wide-2 Inv-loop μ-loop
+mul-wide-2 c = search needs
+
+element-copy-out-wide-2 : tie.Need-element-copy-out-wide-2 Inv-loop μ-loop
+element-copy-out-wide-2 c = search needs
+
+wide-requires-2 : tie.Need-wide-requires-2 Inv-loop μ-loop
+wide-requires-2 c κs = search needs
+
+element-copy-out-old : tie.Need-element-copy-out-old Inv-loop μ-loop
+element-copy-out-old c = near-low c
+
+element-copy-out-new : tie.Need-element-copy-out-new Inv-loop μ-loop
+element-copy-out-new c = far-low (c .before)
+
+element-write-mark : tie.Need-element-write-mark Inv-loop μ-loop
+element-write-mark c = near-low (c .before .before)
+
+loop-less : tie.Need-loop-less Inv-loop μ-loop
+loop-less c = search needs
+
+loop-again : tie.Need-loop-again Inv-loop μ-loop
+loop-again c = let d = c .before .before .before .before .before .before in
+    sweeps-one _ _ _ _ _ _ _ _ (d .before .loop .inv) (d .before .loop .i - 1) _ _ (omega (arith, d .before .loop .inv .low, d .loop-test .taken)) (omega arith) (omega (arith, d .before .loop .inv .low))
+    (λ j x y. from-below j (d .before .loop .i) _ (d .loop-test .taken) x y) _ _ (c .before .before .before .before .wide .ensures) (c .before .before .wide2 .ensures)
+
+returns : tie.Need-returns Inv-loop μ-loop
+returns c = let z : c .before .loop .i ≡ 0 = omega (arith, c .loop-test .left) in
+    sweeps-all _ _ _ _ _ _ (rw z at (c .before .loop .inv))
+
+pub sweep-down-spec : {M : Type 1} → statement M
+sweep-down-spec =
+    tie.close
+    (tie.spec
+    Inv-loop
+    μ-loop
+    loop-holds
+    sub-i
+    mul-wide
+    element-copy-out-wide
+    wide-requires
+    mul-wide-2
+    element-copy-out-wide-2
+    wide-requires-2
+    element-copy-out-old
+    element-copy-out-new
+    element-write-mark
+    loop-less
+    loop-again
+    returns)

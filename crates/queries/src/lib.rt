@@ -1,0 +1,17 @@
+// What a graph answers into a lent buffer: the queries, and the conversion to a circuit. The rules are in specs/.
+
+mod conversion;
+mod queries;
+
+pub use conversion::to_circuit;
+use file::Refusal;
+pub use queries::blocking_predecessors;
+pub use queries::execution_blocked;
+pub use queries::new_front_layer;
+pub use queries::successors;
+
+// What a query answers: how many entries it wrote to the lent buffer.
+pub enum Query {
+    Entries(usize),
+    Refused(Refusal),
+}
