@@ -1,19 +1,17 @@
 -- A load: what its parts make is what its records make, inserted one by one. Assumes nothing.
 use mathlib.Core.Path.{_≡_, refl, sym, _∙_, ap}
 use mathlib.Core.Bool.{Bool, true, false, cond, not}
-use mathlib.Core.List.{List, [], _∷_, _++_, map}
+use mathlib.Core.List.{List, [], _∷_, _++_}
 use Prim.Native.Nat.{ℕ, zero, suc, _+_, _-_, _≤_, _<_}
 use native.Mathlib.Omega.{arith}
 use native.Mathlib.Numerals.{add-one}
-use lib.Dec.{ltb, leb}
 use lib.ListN.{length, take, drop, getD, set, replicate, length-replicate, length-set}
 use lib.Seq.{take-suc-set, take-length}
 use Rattle.file.specs.Lists.{countFrom, upTo}
 use Rattle.file.specs.Pairs.{countOf, checkFile, recordAt}
 use Rattle.file.specs.Records.{front, recordRule, qubitsOf}
-use Rattle.file.specs.declared.InvolvedQubits.{InvolvedQubits}
 use Rattle.file.specs.declared.Refusal.{Refusal}
-use Rattle.file.specs.declared.Refusal.the-variants.{BadRecord, TooManyNodes, TooManyEdges, TooManyRegisters}
+use Rattle.file.specs.declared.Refusal.the-variants.{BadRecord, TooManyRegisters}
 use Rattle.file.specs.declared.FileCheck.the-variants.{Sound, Refused as BadFile}
 use Rattle.file.proofs.PairLaws.{accepted}
 use Rattle.file.proofs.RecordLaws.{rule}
@@ -22,50 +20,15 @@ use Rattle.graph.proofs.ListLaws.{length-countFrom}
 use Rattle.links.specs.declared.LinkAnswer.{LinkAnswer}
 use Rattle.links.specs.declared.LinkAnswer.the-variants.{Done as Linked-all, Refused as Not-linked}
 use Rattle.links.specs.declared.LinkedRecords.{LinkedRecords}
-use Rattle.links.specs.Links.{Linked, link, linkAt, withEdges}
-use Rattle.links.specs.Linking.{linksFrom, noLinks, linksStopped, linkRecord, linkRecords}
+use Rattle.links.specs.Linking.{noLinks, linksStopped, linkRecord, linkRecords}
 use Rattle.registers.specs.declared.Registered.{Registered}
 use Rattle.registers.specs.Registers.{registerRecords}
 use Rattle.insertion.specs.declared.Outcome.the-variants.{Done}
 use Rattle.insertion.specs.Load.{notLoaded, insertRecords, load}
 use Rattle.insertion.specs.Parts.{nodeLists, nodesAfter, assembled, LongEnough}
-use Rattle.insertion.proofs.PartLaws.{Together, together, not-both}
+use Rattle.insertion.proofs.PartLaws.{Together, together, links-between, not-both}
 
 -- ---- what the links accept
-
--- at most one more for each record
-one-more : (i : ℕ) (f : Bool) (q : InvolvedQubits) (x : LinkedRecords) → linkRecord i f q x .accepted ≤ x .accepted + 1
-unfolding linkRecord
-one-more i f q x = by-limits (leb 512 (x .accepted)) (ltb 2048 (x .edges .count + length (y .others)))
-  where
-    y : Linked
-    y = linkAt f q (x .accepted) (x .first) (x .last)
-
-    by-limits : (p r : Bool) → cond p (linksStopped (x .accepted) TooManyNodes) (cond r (linksStopped (x .accepted) (TooManyEdges i))
-        (linksFrom (x .accepted + 1) (withEdges (x .edges) (map (link f (x .accepted)) (y .others))) (cond f (y .near) (y .far)) (cond f (y .far) (y .near)))) .accepted ≤ x .accepted + 1
-    by-limits true r = omega arith
-    by-limits false true = omega arith
-    by-limits false false = omega arith
-
-links-few : (s : List ℕ) (l : List ℕ) (x : LinkedRecords) → linkRecords s x l .accepted ≤ x .accepted + length l
-unfolding linkRecords
-links-few s [] x = omega arith
-links-few s (i ∷ l) x = by-rule (recordRule (recordAt s i)) (links-few s l y)
-  where
-    y : LinkedRecords
-    y = linkRecord i (front (recordAt s i)) (qubitsOf (recordAt s i)) x
-
-    next : y .accepted ≤ x .accepted + 1
-    next = one-more i (front (recordAt s i)) (qubitsOf (recordAt s i)) x
-
-    by-answer : (a : LinkAnswer) → linkRecords s y l .accepted ≤ y .accepted + length l → cond true (elim a [ Linked-all ↦ linkRecords s y l | Not-linked t ↦ y ]) y .accepted ≤ x .accepted + length (i ∷ l)
-    by-answer Linked-all h = omega (arith, next)
-    by-answer (Not-linked t) h = omega (arith, next)
-
-    by-rule : (r : Bool) → linkRecords s y l .accepted ≤ y .accepted + length l
-        → cond (not r) (linksStopped (x .accepted) (BadRecord i)) (elim (y .answer) [ Linked-all ↦ linkRecords s y l | Not-linked t ↦ y ]) .accepted ≤ x .accepted + length (i ∷ l)
-    by-rule false h = omega arith
-    by-rule true h = by-answer (y .answer) h
 
 -- all keep their rule where all are accepted
 links-kept : (s : List ℕ) (l : List ℕ) (x : LinkedRecords) → linkRecords s x l .answer ≡ Linked-all → (k : ℕ) → k < length l → recordRule (recordAt s (getD l k 0)) ≡ true
@@ -96,7 +59,7 @@ links-kept s (i ∷ l) x e k h = by-rule (recordRule (recordAt s i)) refl e k h 
 
 module _ (s l : List ℕ) (x : LinkedRecords) (ex : x ≡ linkRecords s noLinks l) where
   pub linked-few : x .accepted ≤ length l
-  linked-few = let h = links-few s l noLinks in rw ex (omega (arith, h))
+  linked-few = let h = links-between s l noLinks .high in rw ex (omega (arith, h))
 
   pub all-long : x .answer ≡ Linked-all → LongEnough s l
   all-long e k h = rule _ (links-kept s l noLinks (rw ex at e) k h) .long

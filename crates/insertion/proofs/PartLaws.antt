@@ -1,6 +1,6 @@
 -- A list of records part by part: the links, the register maps and the nodes, each made by itself, are those of the graph that the records
 -- make together, and the first refusal is the same. Assumes nothing.
-use mathlib.Core.Path.{_≡_, refl, sym, _∙_, ap, subst}
+use mathlib.Core.Path.{_≡_, refl, sym, _∙_, ap}
 use mathlib.Core.Bool.{Bool, true, false, cond, not, _||_}
 use mathlib.Core.List.{List, [], _∷_, map}
 use Prim.Native.Nat.{ℕ, zero, suc, _+_, _-_, _≤_, _<_}
@@ -21,11 +21,9 @@ use Rattle.links.specs.declared.LinkedRecords.{LinkedRecords}
 use Rattle.links.specs.Links.{Linked, nearAll, link, linkAt, withEdges}
 use Rattle.links.specs.Linking.{linksFrom, linksStopped, linkRecord, linkRecords}
 use Rattle.registers.specs.declared.Registered.{Registered}
-use Rattle.registers.specs.Registers.{mapsAfter, mapsPass, stored, stopped, registersAfter, registersFrom}
-use Rattle.insertion.specs.declared.Answer.the-variants.{Node, Refused}
-use Rattle.insertion.specs.declared.Inserted.{Inserted}
+use Rattle.registers.specs.Registers.{mapsAfter, mapsPass, stored, stopped, registersFrom}
+use Rattle.insertion.specs.declared.Answer.the-variants.{Node}
 use Rattle.insertion.specs.declared.Outcome.the-variants.{Done}
-use Rattle.insertion.specs.declared.Loaded.{Loaded}
 use Rattle.insertion.specs.Insertion.{facing, linked, registered, commutes, grown}
 use Rattle.insertion.specs.Limits.{refused, edgesPass, registersPass, insertAs}
 use Rattle.insertion.specs.Load.{notLoaded, insertRecords}
@@ -113,38 +111,43 @@ module _ (i : ℕ) (g : CircuitDag) (b : List ℕ) where
 
 -- ---- a list of records
 
--- no count falls
-one-rises : (i : ℕ) (f : Bool) (q : InvolvedQubits) (x : LinkedRecords) → x .accepted ≤ linkRecord i f q x .accepted
+-- a record adds one node at most, and none leaves
+pub record Between (a b n : ℕ) : Type 0 where
+  pub low : a ≤ n
+  pub high : n ≤ b
+
+one-between : (i : ℕ) (f : Bool) (q : InvolvedQubits) (x : LinkedRecords) → Between (x .accepted) (x .accepted + 1) (linkRecord i f q x .accepted)
 unfolding linkRecord
-one-rises i f q x = by-limits (leb 512 (x .accepted)) (ltb 2048 (x .edges .count + length (y .others)))
+one-between i f q x = by-limits (leb 512 (x .accepted)) (ltb 2048 (x .edges .count + length (y .others)))
   where
     y : Linked
     y = linkAt f q (x .accepted) (x .first) (x .last)
 
-    by-limits : (p r : Bool) → x .accepted ≤ cond p (linksStopped (x .accepted) TooManyNodes) (cond r (linksStopped (x .accepted) (TooManyEdges i))
-        (linksFrom (x .accepted + 1) (withEdges (x .edges) (map (link f (x .accepted)) (y .others))) (cond f (y .near) (y .far)) (cond f (y .far) (y .near)))) .accepted
-    by-limits true r = omega arith
-    by-limits false true = omega arith
-    by-limits false false = omega arith
+    by-limits : (p r : Bool) → Between (x .accepted) (x .accepted + 1) (cond p (linksStopped (x .accepted) TooManyNodes) (cond r (linksStopped (x .accepted) (TooManyEdges i))
+        (linksFrom (x .accepted + 1) (withEdges (x .edges) (map (link f (x .accepted)) (y .others))) (cond f (y .near) (y .far)) (cond f (y .far) (y .near)))) .accepted)
+    by-limits true r = record { low = omega arith; high = omega arith }
+    by-limits false true = record { low = omega arith; high = omega arith }
+    by-limits false false = record { low = omega arith; high = omega arith }
 
-links-rise : (s : List ℕ) (l : List ℕ) (x : LinkedRecords) → x .accepted ≤ linkRecords s x l .accepted
+pub links-between : (s : List ℕ) (l : List ℕ) (x : LinkedRecords) → Between (x .accepted) (x .accepted + length l) (linkRecords s x l .accepted)
 unfolding linkRecords
-links-rise s [] x = omega arith
-links-rise s (i ∷ l) x = by-rule (recordRule (recordAt s i)) (links-rise s l y)
+links-between s [] x = record { low = omega arith; high = omega arith }
+links-between s (i ∷ l) x = by-rule (recordRule (recordAt s i)) (links-between s l y)
   where
     y : LinkedRecords
     y = linkRecord i (front (recordAt s i)) (qubitsOf (recordAt s i)) x
 
-    next : x .accepted ≤ y .accepted
-    next = one-rises i (front (recordAt s i)) (qubitsOf (recordAt s i)) x
+    next : Between (x .accepted) (x .accepted + 1) (y .accepted)
+    next = one-between i (front (recordAt s i)) (qubitsOf (recordAt s i)) x
 
-    by-answer : (a : LinkAnswer) → y .accepted ≤ linkRecords s y l .accepted → x .accepted ≤ cond true (elim a [ Linked-all ↦ linkRecords s y l | Not-linked t ↦ y ]) y .accepted
-    by-answer Linked-all h = omega (arith, next)
-    by-answer (Not-linked t) h = next
+    by-answer : (a : LinkAnswer) → Between (y .accepted) (y .accepted + length l) (linkRecords s y l .accepted)
+        → Between (x .accepted) (x .accepted + length (i ∷ l)) (cond true (elim a [ Linked-all ↦ linkRecords s y l | Not-linked t ↦ y ]) y .accepted)
+    by-answer Linked-all h = record { low = omega (arith, next .low, h .low); high = omega (arith, next .high, h .high) }
+    by-answer (Not-linked t) h = record { low = next .low; high = omega (arith, next .high) }
 
-    by-rule : (r : Bool) → y .accepted ≤ linkRecords s y l .accepted
-        → x .accepted ≤ cond (not r) (linksStopped (x .accepted) (BadRecord i)) (elim (y .answer) [ Linked-all ↦ linkRecords s y l | Not-linked t ↦ y ]) .accepted
-    by-rule false h = omega arith
+    by-rule : (r : Bool) → Between (y .accepted) (y .accepted + length l) (linkRecords s y l .accepted)
+        → Between (x .accepted) (x .accepted + length (i ∷ l)) (cond (not r) (linksStopped (x .accepted) (BadRecord i)) (elim (y .answer) [ Linked-all ↦ linkRecords s y l | Not-linked t ↦ y ]) .accepted)
+    by-rule false h = record { low = omega arith; high = omega arith }
     by-rule true h = by-answer (y .answer) h
 
 registers-rise : (s : List ℕ) (l : List ℕ) (x : Registered) → x .accepted ≤ registersFrom s x l .accepted
@@ -227,7 +230,7 @@ module _ (s : List ℕ) (g : CircuitDag) where
       taken k low = let z : k - size g ≡ suc (k - (size g + 1)) = omega arith in rw z refl
 
       above : size g < linksIn s g (i ∷ l) .accepted
-      above = let r = links-rise s l (linksOf h) in rw links-on (omega (arith, r, grown-size))
+      above = let r = links-between s l (linksOf h) .low in rw links-on (omega (arith, r, grown-size))
 
       registers-first : registersIn s g (i ∷ l) ≡ registersFrom s (registersOf g) (i ∷ take (linksIn s g (i ∷ l) .accepted - (size g + 1)) l)
       registers-first = ap (registersFrom s (registersOf g)) (taken (linksIn s g (i ∷ l) .accepted) above)

@@ -13,10 +13,8 @@ use borrow.Author.Tests.{lt-ltb, ltb-true, eqb-true, eqb-false, eq-eqb, ne-eqb}
 use Rattle.file.specs.Lists.{anyOf, allOf, distinct, member, add}
 use Rattle.file.specs.declared.InvolvedQubits.{InvolvedQubits}
 use Rattle.file.specs.declared.InvolvedQubits.the-variants.{None, All, Set}
-use Rattle.file.specs.Records.{qubitsOf}
 use Rattle.graph.specs.declared.End.{End}
-use Rattle.graph.specs.declared.CircuitDag.{CircuitDag}
-use Rattle.graph.specs.Dag.{absent, present, orElse, atQubit, size}
+use Rattle.graph.specs.Dag.{absent, present, orElse, atQubit}
 use Rattle.graph.specs.Soundness.{ascends}
 use Rattle.links.specs.Links.{Linked, FarRule, nearAll, source, nearAfter, farAfter, noQubit, qubits, linkQubits, linkSet, mapped, linkAll, linkBy}
 use Rattle.links.specs.Links.{linkAt}

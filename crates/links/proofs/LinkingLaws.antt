@@ -12,7 +12,7 @@ use lib.Seq.{drop-cons}
 use borrow.Author.Tests.{lt-ltb, le-ltb, lt-leb, le-leb, ltb-true, leb-true}
 use Rattle.file.specs.Lists.{anyOf, allOf}
 use Rattle.file.specs.Pairs.{recordAt}
-use Rattle.file.specs.Records.{front, qubitsOf, parseRecord}
+use Rattle.file.specs.Records.{front, parseRecord}
 use Rattle.file.specs.declared.InvolvedQubits.{InvolvedQubits}
 use Rattle.file.specs.declared.Record.{Record}
 use Rattle.file.specs.declared.Parsed.{Parsed}
