@@ -139,18 +139,23 @@ module _ (i : ℕ) (f : Bool) (q : InvolvedQubits) (k : ℕ) (es : Edges) (first
   nodes-full h = rw (le-leb 512 k h) refl
 
   module _ (small : k < 512) (r : LinkedRecord) (from to fn ln : List ℕ) (fb lb : List Bool) (l : RecordLinked f k (linkAt f q k first last) es r from to fn ln fb lb) where
-    edges-full : 2048 < r .edges → linkRecord i f q (linksFrom k es first last) ≡ linksStopped k (TooManyEdges i)
+    abbrev x : Linked
+    x = linkAt f q k first last
+
+    by-count : (b : Bool) → ltb 2048 (r .edges) ≡ b → linkRecord i f q (linksFrom k es first last)
+        ≡ cond b (linksStopped k (TooManyEdges i)) (linksFrom (k + 1) (withEdges es (map (link f k) (x .others))) (cond f (x .near) (x .far)) (cond f (x .far) (x .near)))
     unfolding linkRecord
-    edges-full h = rw (lt-leb 512 k small, ← l .count, lt-ltb 2048 (r .edges) h) refl
+    by-count b e =
+        let z : ltb 2048 (es .count + length (x .others)) ≡ b = rw (← l .count) e in
+        rw (lt-leb 512 k small) (ap (λ (c : Bool). cond c (linksStopped k (TooManyEdges i))
+        (linksFrom (k + 1) (withEdges es (map (link f k) (x .others))) (cond f (x .near) (x .far)) (cond f (x .far) (x .near)))) z)
+
+    edges-full : 2048 < r .edges → linkRecord i f q (linksFrom k es first last) ≡ linksStopped k (TooManyEdges i)
+    edges-full h = by-count true (lt-ltb 2048 (r .edges) h)
 
     grows : r .edges ≤ 2048 → linkRecord i f q (linksFrom k es first last)
         ≡ linksFrom (k + 1) (record { count = r .edges; from = from; to = to }) (endOf fn (r .first) fb) (endOf ln (r .last) lb)
-    unfolding linkRecord
-    grows h =
-        let x = linkAt f q k first last in
-        let e : linkRecord i f q (linksFrom k es first last) ≡ linksFrom (k + 1) (withEdges es (map (link f k) (x .others))) (cond f (x .near) (x .far)) (cond f (x .far) (x .near))
-        = rw (lt-leb 512 k small, ← l .count, le-ltb 2048 (r .edges) h) refl in
-        e ∙ sym (λ j. linksFrom (k + 1) (l .edge-list h j) (l .first j) (l .last j))
+    grows h = by-count false (le-ltb 2048 (r .edges) h) ∙ sym (λ j. linksFrom (k + 1) (l .edge-list h j) (l .first j) (l .last j))
 
 -- .. on the ends and edges of a graph, whose numbers are lent
 module _ (f : Bool) (q : InvolvedQubits) (v : NodeIndex) (es : Edges) (first last : End) (fit : linksFit (v .0) es first last ≡ true) where
