@@ -11,12 +11,11 @@ use lib.ListN.{length, take, drop, getD, length-take, length-drop, drop-of-lengt
 use lib.Seq.{take-all}
 use denote.Ref.{RefT, ptr, now}
 use borrow.Author.Tests.{eq-eqb, ne-eqb, eqb-true, ltb-true, ltb-false, lt-ltb, le-ltb}
-use Rattle.file.specs.Pairs.{numberAt, offsetOf, lengthOf, countOf, checkPairs, checkFile, placeFrom, locateRecord, Part, partOf, startOf, recordAt}
+use Rattle.file.specs.Pairs.{numberAt, offsetOf, lengthOf, countOf, checkPairs, checkFile, placeFrom, locateRecord, Part, partOf, recordAt}
 use Rattle.file.specs.declared.Refusal.{Refusal}
 use Rattle.file.specs.declared.Refusal.the-variants.{FileTooShort, TooManyRecords, BadPair, Absent}
 use Rattle.file.specs.declared.FileCheck.{FileCheck}
 use Rattle.file.specs.declared.FileCheck.the-variants.{Sound, Refused}
-use Rattle.file.specs.declared.Place.{Place}
 use Rattle.file.specs.declared.Place.the-variants.{At, Refused as NotThere}
 
 -- ---- Which byte lists are accepted
@@ -235,8 +234,10 @@ module _ (f r : RefT (List ℕ)) (i : ℕ) (b : ptr r .0 ≡ ptr f .0) where
 -- ---- The answers of `part_of`
 
 module _ (s : List ℕ) (i o m : ℕ) (so : o ≡ offsetOf s i) (sm : m ≡ lengthOf s i) where
-  pub part-past : length s ≤ o → [] ≡ recordAt s i
-  part-past h = rw (← so, drop-of-length-le s {i = o} h) (sym (take-all (lengthOf s i) [] (omega arith)))
+  pub part-past : length s ≤ o → take (length s - length s) (drop (length s) s) ≡ recordAt s i
+  part-past h =
+      rw (← so, drop-of-length-le s {i = length s} (omega arith), drop-of-length-le s {i = o} h)
+      (take-all (length s - length s) [] (omega arith) ∙ sym (take-all (lengthOf s i) [] (omega arith)))
 
   pub part-cut : length s - o < m → take (length s - o) (drop o s) ≡ recordAt s i
   part-cut h =

@@ -1,5 +1,5 @@
 -- A record: what its rule says, its exact length, and the answers of the parser's functions. Assumes nothing.
-use mathlib.Core.Path.{_≡_, refl, sym, _∙_, ap}
+use mathlib.Core.Path.{_≡_, refl, sym, ap}
 use mathlib.Core.Bool.{Bool, true, false, cond, not, _&&_}
 use mathlib.Core.List.{List}
 use mathlib.Core.Logic.{⊎-elim, _⊎_, inl, inr}
@@ -7,7 +7,7 @@ use Prim.Native.Nat.{ℕ, suc, _+_, _*_, _-_, _<_, _≤_}
 use native.Mathlib.Omega.{arith}
 use lib.Dec.{leb, eqb}
 use lib.ListN.{length, getD, List·getD-eq-default}
-use borrow.Author.Tests.{eqb-true, eqb-false, ne-eqb, eq-eqb, le-leb, lt-leb, leb-true}
+use borrow.Author.Tests.{eqb-true, eqb-false, ne-eqb, le-leb, lt-leb, leb-true}
 use Rattle.file.specs.Pairs.{numberAt, recordAt}
 use Rattle.file.specs.Records
 use Rattle.file.proofs.PairLaws.{field-past}
@@ -17,7 +17,6 @@ use Rattle.file.specs.declared.Record.{Record}
 use Rattle.file.specs.declared.InvolvedQubits.{InvolvedQubits}
 use Rattle.file.specs.declared.InvolvedClassical.{InvolvedClassical}
 use Rattle.file.specs.declared.InvolvedClassical.the-variants.{None, All, AllQubits, Set, Definition}
-use Rattle.file.specs.declared.Parsed.{Parsed}
 use Rattle.file.specs.declared.Parsed.the-variants.{Record as Parses, Refused}
 
 bool-cases : (b : Bool) → (b ≡ true) ⊎ (b ≡ false)

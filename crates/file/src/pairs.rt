@@ -2,13 +2,20 @@
 ghost use mathlib.Core.Path.{_≡_};
 ghost use Prim.Native.Nat.{_+_, _<_};
 ghost use lib.ListN.{length, getD};
-ghost use Rattle.file.specs.Pairs.{numberAt, countOf, offsetOf, lengthOf, checkFile, locateRecord, Part, recordAt};
+ghost use Rattle.file.specs.Pairs.{numberAt, countOf, offsetOf, lengthOf, checkFile, locateRecord, Part, PairPart};
 use crate::FileCheck;
 use crate::Place;
 use crate::RecordPart;
 use crate::Refusal;
 
-// A byte as a number to count and index with.
+// A number of two bytes, to count and index with. A call, since `a[i] as usize` would ask that the element fits.
+pub fn to_index(x: u16) -> usize
+    ensures { λ r. ⌜ r ≡ x ⌝ }
+{
+    x as usize
+}
+
+// A byte, likewise.
 pub(crate) fn wide(x: u8) -> usize
     ensures { λ r. ⌜ (r ≡ x) × (r < 256) ⌝ }
 {
@@ -37,7 +44,7 @@ pub(crate) fn field_at(s: &[u8], at: usize) -> usize
 }
 
 // The byte at a place, 0 past the end.
-pub(crate) fn byte_at(s: &[u8], at: usize) -> u8
+pub fn byte_at(s: &[u8], at: usize) -> u8
     ensures { λ r. ⌜ r ≡ getD (now (s .entry)) at 0 ⌝ }
 {
     if at < s.len() { s[at] } else { 0 }
@@ -141,13 +148,13 @@ pub fn record_at(file: &[u8], i: usize) -> &[u8]
 
 // The part of the file that pair i gives, of any bytes and any i, no copy: what lies past the file's end is left out.
 pub fn part_of(file: &[u8], i: usize) -> &[u8]
-    ensures { λ r. ⌜ now r ≡ recordAt (now (file .entry)) i ⌝ }
+    ensures { λ r. ⌜ PairPart (file .entry) r i ⌝ }
 {
     let size = file.len();
     let offset = pair_offset(file, i);
     let length = pair_length(file, i);
     if size <= offset {
-        &file[0..0]
+        &file[size..size]
     } else if size - offset < length {
         &file[offset..size]
     } else {

@@ -5,7 +5,7 @@ ghost use Prim.Native.Nat.{_+_, _*_, _-_, _<_, _≤_};
 ghost use lib.Dec.{leb};
 ghost use lib.ListN.{length};
 ghost use Rattle.file.specs.Pairs.{numberAt};
-ghost use Rattle.file.specs.Records.{definitionRule, qubitRule, entryBefore, ascendFrom, setRule, tailRule, parseRecord, qubitsBy, classicalOf, keyAt, formOf, registerFormOf};
+ghost use Rattle.file.specs.Records.{definitionRule, qubitRule, entryBefore, ascendFrom, setRule, tailRule, parseRecord, qubitsBy, classicalOf, keyAt, front, label, formOf, registerFormOf};
 use crate::InvolvedClassical;
 use crate::InvolvedQubits;
 use crate::Parsed;
@@ -186,6 +186,20 @@ pub fn parse_record(part: &[u8]) -> Parsed
         qubits: involved_qubits(form, mask),
         classical: involved_classical(part),
     })
+}
+
+// Whether a record is for the front, of any bytes: byte 0 alone says so.
+pub fn is_front(part: &[u8]) -> bool
+    ensures { λ r. ⌜ r ≡ front (now (part .entry)) ⌝ }
+{
+    byte_at(part, 0) == 1
+}
+
+// A record's label, of any bytes: a byte past the end counts as 0.
+pub fn record_label(part: &[u8]) -> u16
+    ensures { λ r. ⌜ r ≡ label (now (part .entry)) ⌝ }
+{
+    field_at(part, 12) as u16
 }
 
 // The qubit form's number.

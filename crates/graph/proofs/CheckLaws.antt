@@ -21,7 +21,7 @@ use Rattle.graph.specs.Dag.{Edge, Entry, edgeAt, entryAt, entry, sameEdg
 use Rattle.graph.specs.Soundness.{ifPresent, samePlace, ascends, keysDistinct}
 use Rattle.graph.proofs.BoolLaws.{clash-bool, not-true, not-false, bool-ext, and-l, and-r, and-intro, and-cases, or-cases, or-l, or-r, not-flip, flip-not, split-lt}
 use Rattle.graph.proofs.BitLaws.{markAt, MarkedBits, bits-more, no-bits}
-use Rattle.graph.proofs.ListLaws.{at-all, all-at, all-here, all-fails, upTo-all, all-upTo, upTo-distinct, distinct-upTo, upTo-any, any-upTo, upTo-none, members-all, all-members}
+use Rattle.graph.proofs.ListLaws.{at-any, at-none, at-all, all-at, all-here, all-fails, upTo-all, all-upTo, upTo-distinct, distinct-upTo, upTo-any, any-upTo, upTo-none, members-all, all-members}
 use Rattle.graph.proofs.PlaceLaws.{place-read}
 use Rattle.graph.proofs.SoundnessLaws.{same-told, told-same, ascends-taken, all-taken, taken-ascends, taken-all}
 
@@ -332,9 +332,7 @@ module _ {node : List ℕ} {n : ℕ} {op : List Bool} {q : ℕ} (I : Names node 
 -- ---- blocks
 
 pub record BlockPassed (block : List Bool) (n : ℕ) (above : Bool) (v : ℕ) : Type 0 where
-  pub fit : n ≤ 512
   pub start : n ≤ v
-  pub low : v ≤ 512
   pub long : length block ≡ 512
   pub clear : above ≡ false → (u : ℕ) → n ≤ u → u < v → getD block u false ≡ false
   pub found : above ≡ true → (u : ℕ) × (n ≤ u) × (getD block u false ≡ true)
@@ -345,9 +343,7 @@ mark-low l u h = elim (decLt u (length l)) [ yes k ↦ k | no k ↦ absurd (clas
 module _ {block : List Bool} {n : ℕ} {above : Bool} {v : ℕ} (I : BlockPassed block n above v) where
   pub block-more : v < 512 → BlockPassed block n (above || getD block v false) (v + 1)
   block-more k = record {
-    fit = I .fit;
     start = omega (arith, I .start);
-    low = omega arith;
     long = I .long;
     clear = λ q u a m. ⊎-elim
         (λ (x : u ≡ v). rw x (or-r above (getD block v false) q))
@@ -363,6 +359,21 @@ module _ {block : List Bool} {n : ℕ} {above : Bool} {v : ℕ} (I : BlockPassed
         | no l ↦ absurd (clash-bool e (I .clear (not-flip above q) u (omega arith) (omega (arith, mark-low block u e, I .long))))
       ]))
       (λ h. flip-not above (not-true (λ q. let r = I .found q in absurd (omega (arith, r .1, ltb-true (r .0) n (all-members (λ (v : ℕ). ltb v n) block h (r .0) (r .2)))))))
+
+-- no mark before v
+pub record Unmarked (a : List Bool) (v : ℕ) : Type 0 where
+  pub long : length a ≡ 512
+  pub none : (u : ℕ) → u < v → getD a u false ≡ false
+
+module _ (a : List Bool) {v : ℕ} (I : Unmarked a v) where
+  pub member-found : v < 512 → getD a v false ≡ true → true ≡ anyOf (λ (b : Bool). b) a
+  member-found h e = sym (at-any (λ (b : Bool). b) a false v (omega (arith, I .long)) e)
+
+  pub member-more : getD a v false ≡ false → Unmarked a (v + 1)
+  member-more e = record { long = I .long; none = λ u l. ⊎-elim (λ (q : u ≡ v). ap (λ (w : ℕ). getD a w false) q ∙ e) (λ (q : u < v). I .none u q) (split-lt u v l) }
+
+  pub member-none : 512 ≤ v → false ≡ anyOf (λ (b : Bool). b) a
+  member-none h = sym (at-none (λ (b : Bool). b) a false (λ u l. I .none u (omega (arith, I .long))))
 
 abbrev pub startTest : List Bool → List Bool → ℕ → Bool
 startTest op into v = getD op v false && not (getD into v false)

@@ -1,8 +1,12 @@
-// The circuit dependency graph with two open ends: its types, the empty graph, and which graphs are sound. The rules are in specs/.
+// The circuit dependency graph with two open ends: its types, sets of nodes, the empty graph, and which graphs are sound. The rules are in specs/.
 // Every array holds plain numbers, so that a part of the graph can be lent to a function in place.
 
+pub mod sets;
 pub mod soundness;
 
+pub use sets::has_member;
+pub use sets::members_below;
+pub use sets::no_marks;
 pub use soundness::is_register_map;
 pub use soundness::is_sound;
 ghost use mathlib.Core.Path.{_≡_};
@@ -106,7 +110,7 @@ fn no_nodes() -> Nodes
 }
 
 // No edges.
-fn no_edges() -> Edges
+pub fn no_edges() -> Edges
     ensures { λ r. ⌜ r ≡ empty .edges ⌝ }
 {
     Edges {

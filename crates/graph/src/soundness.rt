@@ -1,7 +1,7 @@
 // Is a handed-in graph sound: one pass over each part, in the time of the parts' lengths.
 ghost use mathlib.Core.Path.{_≡_};
-ghost use mathlib.Core.Bool.{Bool, true, false, cond, not, _&&_, _||_};
-ghost use mathlib.Core.List.{List, _∷_, map};
+ghost use mathlib.Core.Bool.{true, false, cond, not, _&&_, _||_};
+ghost use mathlib.Core.List.{_∷_, map};
 ghost use Prim.Native.Nat.{ℕ, _+_, _*_, _/_, _%_, _^_, _≤_, _<_};
 ghost use lib.Dec.{ltb, leb, eqb};
 ghost use lib.IntN.{ℤ, pos};
@@ -16,13 +16,8 @@ use crate::Edges;
 use crate::End;
 use crate::NodeIndex;
 use crate::Registers;
-
-// A node number as an index. A call, since `a[i] as usize` would ask that the element fits.
-fn wide(x: u16) -> usize
-    ensures { λ r. ⌜ r ≡ x ⌝ }
-{
-    x as usize
-}
+use crate::sets::members_below;
+use crate::sets::no_marks;
 
 // The counts are within the limits, and the ends add up to the nodes.
 fn counts_fit(
@@ -142,11 +137,14 @@ fn is_before(a: i16, b: i16) -> bool
 }
 
 // An edge joins two qubit operations of the graph and rises in place.
-fn edge_fits(f: usize, t: usize, n: usize, place: &[i16; 512], op: &[bool; 512]) -> bool
+fn edge_fits(from: NodeIndex, to: NodeIndex, n: usize, place: &[i16; 512], op: &[bool; 512]) -> bool
     requires { ⌜ n ≤ 512 ⌝ }
-    ensures { λ r. ⌜ r ≡ (ltb f n && ltb t n && (getD (now (op .entry)) f false && getD (now (op .entry)) t false
-        && ltZ (getD (now (place .entry)) f (pos 0)) (getD (now (place .entry)) t (pos 0)))) ⌝ }
+    ensures { λ r. ⌜ r ≡ (ltb (from .0) n && ltb (to .0) n
+        && (getD (now (op .entry)) (from .0) false && getD (now (op .entry)) (to .0) false
+        && ltZ (getD (now (place .entry)) (from .0) (pos 0)) (getD (now (place .entry)) (to .0) (pos 0)))) ⌝ }
 {
+    let f = from.0 as usize;
+    let t = to.0 as usize;
     if n <= f {
         return false;
     }
@@ -199,11 +197,13 @@ fn edges_fit(
     let m = es.count;
     let mut i: usize = 0;
     while i < m {
-        let f = wide(es.from[i]);
-        let t = wide(es.to[i]);
-        if !edge_fits(f, t, n, place, op) {
+        let from = NodeIndex(es.from[i]);
+        let to = NodeIndex(es.to[i]);
+        if !edge_fits(from, to, n, place, op) {
             return false;
         }
+        let f = from.0 as usize;
+        let t = to.0 as usize;
         let cell = f * 512 + t;
         let word = seen[cell / 64];
         let b = (cell % 64) as u32;
@@ -218,14 +218,14 @@ fn edges_fit(
 }
 
 // An entry that may be absent names a qubit operation of the graph.
-fn names_operation(x: u16, n: usize, op: &[bool; 512]) -> bool
+fn names_operation(x: NodeIndex, n: usize, op: &[bool; 512]) -> bool
     requires { ⌜ n ≤ 512 ⌝ }
-    ensures { λ r. ⌜ r ≡ ifPresent (λ (v : ℕ). ltb v n && getD (now (op .entry)) v false) x ⌝ }
+    ensures { λ r. ⌜ r ≡ ifPresent (λ (v : ℕ). ltb v n && getD (now (op .entry)) v false) (x .0) ⌝ }
 {
-    if x == 65535 {
+    if x.0 == 65535 {
         return true;
     }
-    let v = wide(x);
+    let v = x.0 as usize;
     if v < n {
         return op[v];
     }
@@ -238,31 +238,17 @@ fn names_fit(all: NodeIndex, node: &[u16; 64], n: usize, op: &[bool; 512]) -> bo
     ensures { λ r. ⌜ r ≡ allOf (ifPresent (λ (v : ℕ). ltb v n && getD (now (op .entry)) v false))
         (all .0 ∷ now (node .entry)) ⌝ }
 {
-    if !names_operation(all.0, n, op) {
+    if !names_operation(all, n, op) {
         return false;
     }
     let mut q: usize = 0;
     while q < 64 {
-        if !names_operation(node[q], n, op) {
+        if !names_operation(NodeIndex(node[q]), n, op) {
             return false;
         }
         q += 1;
     }
     true
-}
-
-// The members of a block are nodes of the graph. No branch on a member, so that the compiler takes many at a time.
-fn block_below(block: &[bool; 512], n: usize) -> bool
-    requires { ⌜ (n ≤ 512) × (length (now block) ≡ 512) ⌝ }
-    ensures { λ r. ⌜ r ≡ allOf (λ (v : ℕ). ltb v n) (members (now (block .entry))) ⌝ }
-{
-    let mut above = false;
-    let mut v: usize = n;
-    while v < 512 {
-        above = above | block[v];
-        v += 1;
-    }
-    !above
 }
 
 // An end names qubit operations of the graph, and its block holds nodes of the graph.
@@ -277,7 +263,7 @@ fn end_fits(e: End, n: usize, op: &[bool; 512]) -> bool
         return false;
     }
     let block = e.block;
-    block_below(&block, n)
+    members_below(block, n)
 }
 
 // A member of the first block is a qubit operation without an incoming edge.
@@ -311,7 +297,7 @@ fn commuting_fits(c: Commuting, n: usize) -> bool
     let mut low: usize = 0;
     let mut i: usize = 0;
     while i < m {
-        let v = wide(c.list[i]);
+        let v = file::to_index(c.list[i]);
         if v < low {
             return false;
         }
@@ -381,7 +367,7 @@ fn registers_fit(r: Registers, n: usize) -> bool
     let m = r.count;
     let mut i: usize = 0;
     while i < m {
-        if n <= wide(r.node[i]) {
+        if n <= file::to_index(r.node[i]) {
             return false;
         }
         let k = cell_of(name[i], index[i]);
@@ -439,13 +425,6 @@ fn lists_fit(commuting: Commuting, first: Registers, last: Registers, n: usize) 
         return false;
     }
     registers_fit(last, n)
-}
-
-// No node is marked.
-fn no_marks() -> [bool; 512]
-    ensures { λ r. ⌜ r ≡ replicate 512 false ⌝ }
-{
-    [false; 512]
 }
 
 // "A handed-in graph is sound if ..": every clause holds. The counts come first, since the other loops run to them.

@@ -1,6 +1,5 @@
 -- A load: what its parts make is what its records make, inserted one by one. Assumes nothing.
 use mathlib.Core.Path.{_≡_, refl, sym, _∙_, ap}
-use mathlib.Core.Bool.{Bool, true, false, cond, not}
 use mathlib.Core.List.{List, [], _∷_, _++_}
 use Prim.Native.Nat.{ℕ, zero, suc, _+_, _-_, _≤_, _<_}
 use native.Mathlib.Omega.{arith}
@@ -8,61 +7,28 @@ use native.Mathlib.Numerals.{add-one}
 use lib.ListN.{length, take, drop, getD, set, replicate, length-replicate, length-set}
 use lib.Seq.{take-suc-set, take-length}
 use Rattle.file.specs.Lists.{countFrom, upTo}
-use Rattle.file.specs.Pairs.{countOf, checkFile, recordAt}
-use Rattle.file.specs.Records.{front, recordRule, qubitsOf}
+use Rattle.file.specs.Pairs.{countOf, checkFile}
 use Rattle.file.specs.declared.Refusal.{Refusal}
-use Rattle.file.specs.declared.Refusal.the-variants.{BadRecord, TooManyRegisters}
+use Rattle.file.specs.declared.Refusal.the-variants.{TooManyRegisters}
 use Rattle.file.specs.declared.FileCheck.the-variants.{Sound, Refused as BadFile}
 use Rattle.file.proofs.PairLaws.{accepted}
-use Rattle.file.proofs.RecordLaws.{rule}
 use Rattle.graph.specs.Dag.{empty}
 use Rattle.graph.proofs.ListLaws.{length-countFrom}
-use Rattle.links.specs.declared.LinkAnswer.{LinkAnswer}
 use Rattle.links.specs.declared.LinkAnswer.the-variants.{Done as Linked-all, Refused as Not-linked}
 use Rattle.links.specs.declared.LinkedRecords.{LinkedRecords}
-use Rattle.links.specs.Linking.{noLinks, linksStopped, linkRecord, linkRecords}
+use Rattle.links.specs.Linking.{noLinks, linkRecords}
 use Rattle.registers.specs.declared.Registered.{Registered}
 use Rattle.registers.specs.Registers.{registerRecords}
 use Rattle.insertion.specs.declared.Outcome.the-variants.{Done}
 use Rattle.insertion.specs.Load.{notLoaded, insertRecords, load}
-use Rattle.insertion.specs.Parts.{nodeLists, nodesAfter, assembled, LongEnough}
-use Rattle.insertion.proofs.PartLaws.{Together, together, links-between, not-both}
-
--- ---- what the links accept
-
--- all keep their rule where all are accepted
-links-kept : (s : List ℕ) (l : List ℕ) (x : LinkedRecords) → linkRecords s x l .answer ≡ Linked-all → (k : ℕ) → k < length l → recordRule (recordAt s (getD l k 0)) ≡ true
-unfolding linkRecords
-links-kept s [] x e k h = absurd (omega arith)
-links-kept s (i ∷ l) x e k h = by-rule (recordRule (recordAt s i)) refl e k h (λ e k h. links-kept s l (linkRecord i (front (recordAt s i)) (qubitsOf (recordAt s i)) x) e k h)
-  where
-    y : LinkedRecords
-    y = linkRecord i (front (recordAt s i)) (qubitsOf (recordAt s i)) x
-
-    Kept : Type 0
-    Kept = linkRecords s y l .answer ≡ Linked-all → (k : ℕ) → k < length l → recordRule (recordAt s (getD l k 0)) ≡ true
-
-    by-answer : (a : LinkAnswer) → y .answer ≡ a → cond true (elim a [ Linked-all ↦ linkRecords s y l | Not-linked t ↦ y ]) y .answer ≡ Linked-all → linkRecords s y l .answer ≡ Linked-all
-    by-answer Linked-all d e = e
-    by-answer (Not-linked t) d e = not-both t (sym e ∙ d)
-
-    at : (k : ℕ) → recordRule (recordAt s i) ≡ true → k < length (i ∷ l) → linkRecords s y l .answer ≡ Linked-all → Kept → recordRule (recordAt s (getD (i ∷ l) k 0)) ≡ true
-    at zero t h e f = t
-    at (suc k) t h e f = f e k (omega arith)
-
-    by-rule : (r : Bool) → recordRule (recordAt s i) ≡ r → cond (not r) (linksStopped (x .accepted) (BadRecord i)) (elim (y .answer) [ Linked-all ↦ linkRecords s y l | Not-linked t ↦ y ]) .answer ≡ Linked-all
-        → (k : ℕ) → k < length (i ∷ l) → Kept → recordRule (recordAt s (getD (i ∷ l) k 0)) ≡ true
-    by-rule false t e k h f = not-both (BadRecord i) (sym e)
-    by-rule true t e k h f = at k t h (by-answer (y .answer) refl e) f
+use Rattle.insertion.specs.Parts.{nodeLists, nodesAfter, assembled}
+use Rattle.insertion.proofs.PartLaws.{Together, together, links-between}
 
 -- ---- `insert_in_order`
 
 module _ (s l : List ℕ) (x : LinkedRecords) (ex : x ≡ linkRecords s noLinks l) where
   pub linked-few : x .accepted ≤ length l
   linked-few = let h = links-between s l noLinks .high in rw ex (omega (arith, h))
-
-  pub all-long : x .answer ≡ Linked-all → LongEnough s l
-  all-long e k h = rule _ (links-kept s l noLinks (rw ex at e) k h) .long
 
   module _ (short : length l ≤ 512) (r : Registered) (er : r ≡ registerRecords s (take (x .accepted - 0) (drop 0 l))) where
     t : Together s empty l x r

@@ -1,7 +1,7 @@
 -- The nodes of a list of records in the arrays of a load: what the functions of module nodes leave is the rule's. Assumes nothing.
 use mathlib.Core.Path.{_≡_, refl, _∙_}
 use mathlib.Core.Bool.{Bool, true, false, cond, not}
-use mathlib.Core.List.{List, [], _∷_}
+use mathlib.Core.List.{List, []}
 use Prim.Native.Nat.{ℕ, _+_, _≤_, _<_}
 use native.Mathlib.Omega.{arith}
 use native.Mathlib.Numerals.{add-one}
@@ -14,7 +14,7 @@ use Rattle.file.specs.Records.{front, qubitForm}
 use Rattle.graph.specs.Dag.{empty}
 use Rattle.insertion.specs.declared.nodes.NodeLists.{NodeLists}
 use Rattle.insertion.specs.Insertion.{placeAfter, commutes}
-use Rattle.insertion.specs.Parts.{LongEnough, nodeLists, nodeAfter, nodesAfter}
+use Rattle.insertion.specs.Parts.{nodeLists, nodeAfter, nodesAfter}
 
 -- ---- one record
 
@@ -94,6 +94,3 @@ end file order k x l h = let z : drop k order ≡ [] = drop-of-length-le order {
 pub end-under : (f : Bool) (x y k : ℕ) → x + y ≡ k → k < 512 → cond f y x < 512
 end-under true x y k e l = omega arith
 end-under false x y k e l = omega arith
-
-pub long : (file order : List ℕ) (k : ℕ) → LongEnough file order → k < length order → (i : ℕ) → i ≡ getD order k 0 → (b : List ℕ) → b ≡ recordAt file i → 14 ≤ length b
-long file order k all h i is b part = rw (part, is) (all k h)

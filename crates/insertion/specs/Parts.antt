@@ -2,8 +2,8 @@
 -- maps (crate registers) read the others, so that a load makes each in a loop of its own. Assumes nothing.
 use mathlib.Core.Bool.{cond}
 use mathlib.Core.List.{List, [], _∷_}
-use Prim.Native.Nat.{ℕ, _+_, _≤_, _<_}
-use lib.ListN.{length, getD, set}
+use Prim.Native.Nat.{ℕ, _+_}
+use lib.ListN.{set}
 use Rattle.file.specs.Pairs.{recordAt}
 use Rattle.file.specs.Records.{front, kind, qubitForm, label}
 use Rattle.graph.specs.declared.CircuitDag.{CircuitDag}
@@ -38,10 +38,6 @@ nodeAfter b x = let v = x .nodes .count in record {
 unfoldable pub nodesAfter : List ℕ → NodeLists → List ℕ → NodeLists
 nodesAfter s x [] = x
 nodesAfter s x (i ∷ l) = nodesAfter s (nodeAfter (recordAt s i) x) l
-
--- each of the records has at least the bytes that every record has
-abbrev pub LongEnough : List ℕ → List ℕ → Type 0
-LongEnough file order = (k : ℕ) → k < length order → 14 ≤ length (recordAt file (getD order k 0))
 
 -- the graph of the nodes, the ends with their edges, and the register maps
 abbrev pub assembled : NodeLists → LinkedRecords → Registered → CircuitDag

@@ -1,6 +1,6 @@
 // A single insertion: the record's node, its links and its register maps, on the parts of a graph.
 ghost use mathlib.Core.Path.{_≡_};
-ghost use mathlib.Core.Bool.{Bool, true};
+ghost use mathlib.Core.Bool.{true};
 ghost use Rattle.graph.specs.Soundness.{sound};
 ghost use Rattle.links.specs.Links.{nearAll};
 ghost use Rattle.insertion.specs.Limits.{refused, insertAs, insertOf};

@@ -11,7 +11,6 @@ use crate::Loaded;
 use crate::Outcome;
 use crate::assembling::assemble;
 use crate::nodes::list_nodes;
-use crate::nodes::widened;
 use file::FileCheck;
 use file::Refusal;
 use graph::CircuitDag;
@@ -52,7 +51,7 @@ pub(crate) fn insert_in_order(file: &[u8], order: &[u16]) -> Loaded
     let r = registers::register_records(file, &order[start..linked]);
     let registered = r.accepted;
     if registered < linked {
-        return not_loaded(Refusal::TooManyRegisters(widened(order[registered])));
+        return not_loaded(Refusal::TooManyRegisters(file::to_index(order[registered])));
     }
     let answer = x.answer;
     if let LinkAnswer::Refused(cause) = answer {

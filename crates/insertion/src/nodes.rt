@@ -1,13 +1,13 @@
 // "A node keeps kind, qubit form, label and place", and the commuting list.
 ghost use mathlib.Core.Path.{_≡_};
-ghost use mathlib.Core.Bool.{Bool, cond, _||_, _&&_};
-ghost use Prim.Native.Nat.{ℕ, _+_, _<_, _≤_};
+ghost use mathlib.Core.Bool.{cond, _||_, _&&_};
+ghost use Prim.Native.Nat.{_+_, _<_, _≤_};
 ghost use lib.Dec.{eqb};
 ghost use lib.ListN.{length, set};
 ghost use Rattle.file.specs.Records;
 ghost use Rattle.file.specs.Records.{defines, qubitForm};
 ghost use Rattle.insertion.specs.Insertion.{placeAfter, commutes};
-ghost use Rattle.insertion.specs.Parts.{LongEnough, nodeLists, nodeAfter, nodesAfter};
+ghost use Rattle.insertion.specs.Parts.{nodeLists, nodeAfter, nodesAfter};
 ghost use Rattle.graph.specs.Dag.{empty};
 use graph::Commuting;
 use graph::NodeIndex;
@@ -19,13 +19,6 @@ pub(crate) struct NodeLists {
     pub commuting: Commuting,
     pub backs: usize,
     pub fronts: usize,
-}
-
-// A number of an order of records, to count with.
-pub(crate) fn widened(x: u16) -> usize
-    ensures { λ r. ⌜ r ≡ x ⌝ }
-{
-    x as usize
 }
 
 // How many insertions the record's end has had.
@@ -54,29 +47,6 @@ fn one_more(n: usize, more: bool) -> usize
     if more { n + 1 } else { n }
 }
 
-// Whether the record goes to the front.
-fn is_front(part: &[u8]) -> bool
-    requires { ⌜ 14 ≤ length (now part) ⌝ }
-    ensures { λ r. ⌜ r ≡ Records.front (now (part .entry)) ⌝ }
-{
-    part[0] == 1
-}
-
-// A byte as a number of two.
-fn wide(x: u8) -> u16
-    ensures { λ r. ⌜ (r ≡ x) × (r < 256) ⌝ }
-{
-    x as u16
-}
-
-// The record's label.
-fn label_of(part: &[u8]) -> u16
-    requires { ⌜ 14 ≤ length (now part) ⌝ }
-    ensures { λ r. ⌜ r ≡ Records.label (now (part .entry)) ⌝ }
-{
-    wide(part[12]) + wide(part[13]) * 256
-}
-
 // Node v keeps the record's kind, qubit form and label, and its place, after k insertions at its end.
 fn put_node(
     part: &[u8],
@@ -88,16 +58,17 @@ fn put_node(
     labels: &mut [u16; 512],
     places: &mut [i16; 512],
 )
-    requires { ⌜ (v .0 < 512) × (k < 512) × (14 ≤ length (now part)) ⌝ }
-    ensures { λ r. ⌜ (now (kinds .exit) ≡ set (now (kinds .entry)) (v .0) (Records.kind (now (part .entry)))) × (now (forms .exit) ≡ set (now (forms .entry)) (v .0) (qubitForm (now (part .entry)))) × (now (labels .exit) ≡ set (now (labels .entry)) (v .0) (Records.label (now (part .entry)))) × (now (places .exit) ≡ set (now (places .entry)) (v .0) (placeAfter front k)) ⌝ }
+    requires { ⌜ (v .0 < 512) × (k < 512) ⌝ }
+    ensures { λ r. ⌜ (now (kinds .exit) ≡ set (now (kinds .entry)) (v .0) (Records.kind (now (part .entry))))
+        × (now (forms .exit) ≡ set (now (forms .entry)) (v .0) (qubitForm (now (part .entry))))
+        × (now (labels .exit) ≡ set (now (labels .entry)) (v .0) (Records.label (now (part .entry))))
+        × (now (places .exit) ≡ set (now (places .entry)) (v .0) (placeAfter front k)) ⌝ }
 {
     let i = v.0 as usize;
-    let label = label_of(part);
-    let place = place_after(front, k);
-    kinds[i] = part[1];
-    forms[i] = part[2];
-    labels[i] = label;
-    places[i] = place;
+    kinds[i] = file::byte_at(part, 1);
+    forms[i] = file::byte_at(part, 2);
+    labels[i] = file::record_label(part);
+    places[i] = place_after(front, k);
 }
 
 // Kinds 1 to 4, and records with both forms None, join the commuting list.
@@ -112,10 +83,14 @@ fn is_commuting(kind: u8, form: u8, register: u8) -> bool
 
 // Node v behind the count nodes of the commuting list, if it joins; how many there are then.
 fn put_commuting(part: &[u8], v: NodeIndex, list: &mut [u16; 512], count: usize) -> usize
-    requires { ⌜ (count < 512) × (14 ≤ length (now part)) ⌝ }
-    ensures { λ r. ⌜ (r ≡ cond (commutes (now (part .entry))) (count + 1) count) × (now (list .exit) ≡ cond (commutes (now (part .entry))) (set (now (list .entry)) count (v .0)) (now (list .entry))) ⌝ }
+    requires { ⌜ count < 512 ⌝ }
+    ensures { λ r. ⌜ (r ≡ cond (commutes (now (part .entry))) (count + 1) count)
+        × (now (list .exit) ≡ cond (commutes (now (part .entry))) (set (now (list .entry)) count (v .0)) (now (list .entry))) ⌝ }
 {
-    if is_commuting(part[1], part[2], part[11]) {
+    let kind = file::byte_at(part, 1);
+    let form = file::byte_at(part, 2);
+    let register = file::byte_at(part, 11);
+    if is_commuting(kind, form, register) {
         list[count] = v.0;
         return count + 1;
     }
@@ -124,7 +99,7 @@ fn put_commuting(part: &[u8], v: NodeIndex, list: &mut [u16; 512], count: usize)
 
 // The record as the next node.
 pub(crate) fn list_node(part: &[u8], x: NodeLists) -> NodeLists
-    requires { ⌜ (14 ≤ length (now part)) × (x .nodes .count < 512) × (x .commuting .count < 512) × (x .backs < 512) × (x .fronts < 512) ⌝ }
+    requires { ⌜ (x .nodes .count < 512) × (x .commuting .count < 512) × (x .backs < 512) × (x .fronts < 512) ⌝ }
     ensures { λ r. ⌜ r ≡ nodeAfter (now (part .entry)) x ⌝ }
 {
     let mut kind = x.nodes.kind;
@@ -134,7 +109,7 @@ pub(crate) fn list_node(part: &[u8], x: NodeLists) -> NodeLists
     let mut list = x.commuting.list;
     let n = x.nodes.count;
     let v = NodeIndex(n as u16);
-    let front = is_front(part);
+    let front = file::is_front(part);
     let before = insertions_at(front, x.backs, x.fronts);
     put_node(
         part,
@@ -163,7 +138,7 @@ pub(crate) fn list_node(part: &[u8], x: NodeLists) -> NodeLists
 
 // The file's records with these numbers, one after the other, as nodes 0, 1, 2, ..
 pub(crate) fn list_nodes(file: &[u8], order: &[u16]) -> NodeLists
-    requires { ⌜ (length (now order) ≤ 512) × LongEnough (now file) (now order) ⌝ }
+    requires { ⌜ length (now order) ≤ 512 ⌝ }
     ensures { λ r. ⌜ r ≡ nodesAfter (now (file .entry)) (nodeLists empty) (now (order .entry)) ⌝ }
 {
     let mut kind = [0u8; 512];
@@ -176,9 +151,9 @@ pub(crate) fn list_nodes(file: &[u8], order: &[u16]) -> NodeLists
     let mut fronts: usize = 0;
     let mut k: usize = 0;
     while k < order.len() {
-        let part = file::part_of(file, widened(order[k]));
+        let part = file::part_of(file, file::to_index(order[k]));
         let v = NodeIndex(k as u16);
-        let front = is_front(part);
+        let front = file::is_front(part);
         let before = insertions_at(front, backs, fronts);
         put_node(
             part,

@@ -4,7 +4,6 @@ use file::Refusal;
 use file::RefusalValue;
 use graph::CircuitDag;
 use insertion::Answer;
-use insertion::Loaded;
 use insertion::Outcome;
 use libc::STDOUT_FILENO;
 

@@ -26,7 +26,7 @@ use Rattle.graph.specs.declared.End.{End}
 use Rattle.graph.specs.Dag.{absent, present, atQubit, noEnd, empty}
 use Rattle.graph.specs.Soundness.{named, ifPresent}
 use Rattle.graph.proofs.BoolLaws.{clash-bool, not-true, and-l, and-r}
-use Rattle.graph.proofs.ListLaws.{all-here, all-fails, all-at, at-all, at-any, at-none}
+use Rattle.graph.proofs.ListLaws.{all-here, all-fails, all-at, at-all}
 use Rattle.graph.proofs.SizeLaws.{EndSized}
 use Rattle.graph.proofs.SoundnessLaws.{named-all, named-node}
 use Rattle.links.specs.declared.LinkAnswer.the-variants.{Done, Refused}
@@ -68,19 +68,11 @@ module _ (front : Bool) (x : Linked) (v : ℕ) (r : JoinedEnds) (fn ln : List �
     last-fits = j .last-fits;
   }
 
--- ---- `has_node`
-
-pub found-node : (block : List Bool) (v : ℕ) → length block ≡ 512 → v < 512 → getD block v false ≡ true → true ≡ anyOf (λ b. b) block
-found-node block v e l h = sym (at-any (λ b. b) block false v (omega arith) h)
-
-pub no-node : (block : List Bool) → length block ≡ 512 → ((i : ℕ) → i < 512 → getD block i false ≡ false) → false ≡ anyOf (λ b. b) block
-no-node block e f = sym (at-none (λ b. b) block false (λ i l. f i (omega arith)))
+-- ---- `names_below`
 
 -- the same of entry v, too
 pub one-further : (p : ℕ → Bool) (b : Bool) (v : ℕ) → ((i : ℕ) → i < v → p i ≡ b) → p v ≡ b → (i : ℕ) → i < v + 1 → p i ≡ b
 one-further p b v f h i l = elim (ℕ-discrete i v) [ yes e ↦ rw e h | no e ↦ f i (omega arith) ]
-
--- ---- `names_below`
 
 module _ (p : ℕ → Bool) (x : ℕ) (l : List ℕ) where
   pub first-above : p x ≡ false → false ≡ allOf p (x ∷ l)

@@ -7,7 +7,7 @@ ghost use lib.ListN.{length, getD, set, take, replicate};
 ghost use lib.Bits.{bitAnd};
 ghost use lib.Count.{trailingZeros};
 ghost use Rattle.file.specs.Lists.{member, anyOf};
-ghost use Rattle.graph.specs.Dag.{Edge, absent, present, orElse};
+ghost use Rattle.graph.specs.Dag.{absent, present, orElse};
 ghost use Rattle.links.specs.Links.{nearAll, qubits, linkSet, linkAll, linkBy, link};
 ghost use Rattle.links.specs.Ends.{entryAt, withEntry, endState, endOf, EndFits, Only, OtherAdded, SetLinked, AllLinked, StateGrown, nearState, farState, JoinedBy, JoinedEndsBy, EdgesAdded};
 ghost use Rattle.links.specs.Links.{linkAt};

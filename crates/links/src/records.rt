@@ -1,11 +1,11 @@
 // The ends and edges of a list of records, and of one record on the ends and edges of a graph. No other part of an insertion reads
 // them, so that a load makes them in a loop of their own.
 ghost use mathlib.Core.Path.{_≡_};
-ghost use mathlib.Core.Bool.{Bool, true, false};
-ghost use Prim.Native.Nat.{ℕ, _+_, _≤_, _<_};
+ghost use mathlib.Core.Bool.{true, false};
+ghost use Prim.Native.Nat.{_+_, _≤_, _<_};
 ghost use lib.Dec.{ltb};
 ghost use lib.ListN.{length};
-ghost use Rattle.file.specs.Lists.{anyOf, allOf};
+ghost use Rattle.file.specs.Lists.{allOf};
 ghost use Rattle.graph.specs.Soundness.{named, ifPresent};
 ghost use Rattle.links.specs.Ends.{endState, endOf, endStateOf, EndFits, RecordLinked};
 ghost use Rattle.links.specs.Links.{linkAt};
@@ -21,13 +21,6 @@ use file::Refusal;
 use graph::Edges;
 use graph::End;
 use graph::NodeIndex;
-
-// A node or record number, to count with. A call, since `a[i] as usize` would ask that the element fits.
-fn widened(x: u16) -> usize
-    ensures { λ r. ⌜ r ≡ x ⌝ }
-{
-    x as usize
-}
 
 // Node v joins the two ends, and its edges the edges that stand, if there is room for them: how many there are then; over 2,048 are too many.
 fn link_record(
@@ -75,11 +68,7 @@ fn links_stopped(k: usize, r: Refusal) -> LinkedRecords
     LinkedRecords {
         accepted: k,
         answer: LinkAnswer::Refused(r),
-        edges: Edges {
-            count: 0,
-            from: [0; 2048],
-            to: [0; 2048],
-        },
+        edges: graph::no_edges(),
         first: graph::no_end(),
         last: graph::no_end(),
     }
@@ -117,41 +106,26 @@ fn links_held(
     }
 }
 
-// Whether the block has a node.
-fn has_node(block: &[bool; 512]) -> bool
-    requires { ⌜ length (now block) ≡ 512 ⌝ }
-    ensures { λ r. ⌜ r ≡ anyOf (λ b. b) (now (block .entry)) ⌝ }
-{
-    let mut v: usize = 0;
-    while v < 512 {
-        if block[v] {
-            return true;
-        }
-        v += 1;
-    }
-    false
-}
-
 // The numbers of an end of a graph. Nothing is mapped from 64 on, and of the block it is said only whether it has a node.
 fn end_numbers(e: End) -> [u16; 3]
     ensures { λ r. ⌜ endState r ≡ endStateOf e ⌝ }
 {
     let all = e.all;
     let block = e.block;
-    if has_node(&block) {
+    if graph::has_member(block) {
         return [all.0, 64, 65534];
     }
     [all.0, 64, 65535]
 }
 
 // Whether an entry is absent or a node below n.
-fn is_below(x: u16, n: usize) -> bool
-    ensures { λ r. ⌜ r ≡ ifPresent (λ u. ltb u n) x ⌝ }
+fn is_below(x: NodeIndex, n: usize) -> bool
+    ensures { λ r. ⌜ r ≡ ifPresent (λ u. ltb u n) (x .0) ⌝ }
 {
-    if x == 65535 {
+    if x.0 == 65535 {
         return true;
     }
-    widened(x) < n
+    file::to_index(x.0) < n
 }
 
 // Whether the end names only nodes below n.
@@ -159,13 +133,13 @@ fn names_below(e: End, n: usize) -> bool
     ensures { λ r. ⌜ r ≡ allOf (ifPresent (λ u. ltb u n)) (named e) ⌝ }
 {
     let all = e.all;
-    if !is_below(all.0, n) {
+    if !is_below(all, n) {
         return false;
     }
     let node = e.node;
     let mut q: usize = 0;
     while q < 64 {
-        if !is_below(node[q], n) {
+        if !is_below(NodeIndex(node[q]), n) {
             return false;
         }
         q += 1;
@@ -261,7 +235,7 @@ pub fn link_records(file: &[u8], order: &[u16]) -> LinkedRecords
     let mut others = [0u16; 64];
     let mut k: usize = 0;
     while k < order.len() {
-        let i = widened(order[k]);
+        let i = file::to_index(order[k]);
         let parsed = file::parse_record(file::part_of(file, i));
         let Parsed::Record(r) = parsed else {
             return links_stopped(k, Refusal::BadRecord(i));

@@ -13,13 +13,6 @@ use graph::NodeIndex;
 use queries::Query;
 use walk::BlockCount;
 
-// A number as an index. A call, since `a[i] as usize` would ask that the element fits.
-fn wide(x: u16) -> usize
-    ensures { λ r. ⌜ r ≡ x ⌝ }
-{
-    x as usize
-}
-
 // The smallest node below n with the block's number.
 fn smallest_member(number: &[u16; 512], n: usize, block: usize) -> NodeIndex
     requires { ⌜ n ≤ 512 ⌝ }
@@ -27,7 +20,7 @@ fn smallest_member(number: &[u16; 512], n: usize, block: usize) -> NodeIndex
 {
     let mut u: usize = 0;
     while u < n {
-        if wide(number[u]) == block {
+        if file::to_index(number[u]) == block {
             return NodeIndex(u as u16);
         }
         u += 1;
@@ -49,7 +42,7 @@ fn smaller_of(
     if to.0 != v.0 {
         return best;
     }
-    if wide(number) != block {
+    if file::to_index(number) != block {
         return best;
     }
     if node.0 < best.0 {
@@ -74,7 +67,7 @@ fn smallest_predecessor(
     let mut j: usize = 0;
     while j < m {
         let node = from[j];
-        let f = wide(node);
+        let f = file::to_index(node);
         let target = to[j];
         best = smaller_of(
             best,

@@ -3,6 +3,7 @@
 mod conversion;
 mod queries;
 
+pub use conversion::definitions_first;
 pub use conversion::to_circuit;
 use file::Refusal;
 pub use queries::blocking_predecessors;

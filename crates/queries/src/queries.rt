@@ -13,27 +13,16 @@ use file::Refusal;
 use graph::CircuitDag;
 use graph::NodeIndex;
 use graph::is_sound;
-
-fn wide(x: u16) -> usize
-    ensures { λ r. ⌜ r ≡ x ⌝ }
-{
-    x as usize
-}
-
-// No node.
-fn none() -> [bool; 512]
-    ensures { λ r. ⌜ r ≡ noNode ⌝ }
-{
-    [false; 512]
-}
+use graph::no_marks;
 
 // The node v alone.
-fn only(v: usize) -> [bool; 512]
-    requires { ⌜ v < 512 ⌝ }
-    ensures { λ r. ⌜ r ≡ set noNode v true ⌝ }
+fn only(v: NodeIndex) -> [bool; 512]
+    requires { ⌜ v .0 < 512 ⌝ }
+    ensures { λ r. ⌜ r ≡ set noNode (v .0) true ⌝ }
 {
-    let mut r = none();
-    r[v] = true;
+    let mut r = no_marks();
+    let i = v.0 as usize;
+    r[i] = true;
     r
 }
 
@@ -45,12 +34,13 @@ fn every() -> [bool; 512]
 }
 
 // Every node but v.
-fn all_but(v: usize) -> [bool; 512]
-    requires { ⌜ v < 512 ⌝ }
-    ensures { λ r. ⌜ r ≡ set everyNode v false ⌝ }
+fn all_but(v: NodeIndex) -> [bool; 512]
+    requires { ⌜ v .0 < 512 ⌝ }
+    ensures { λ r. ⌜ r ≡ set everyNode (v .0) false ⌝ }
 {
     let mut r = every();
-    r[v] = false;
+    let i = v.0 as usize;
+    r[i] = false;
     r
 }
 
@@ -61,7 +51,7 @@ fn listed(list: &[u16]) -> [bool; 512]
     let mut r = [false; 512];
     let mut i: usize = 0;
     while i < list.len() {
-        let u = wide(list[i]);
+        let u = file::to_index(list[i]);
         if u < 512 {
             r[u] = true;
         }
@@ -71,12 +61,13 @@ fn listed(list: &[u16]) -> [bool; 512]
 }
 
 // The same with the node v besides.
-fn listed_with(list: &[u16], v: usize) -> [bool; 512]
-    requires { ⌜ v < 512 ⌝ }
-    ensures { λ r. ⌜ Listed (v ∷ now (list .entry)) r ⌝ }
+fn listed_with(list: &[u16], v: NodeIndex) -> [bool; 512]
+    requires { ⌜ v .0 < 512 ⌝ }
+    ensures { λ r. ⌜ Listed (v .0 ∷ now (list .entry)) r ⌝ }
 {
     let mut r = listed(list);
-    r[v] = true;
+    let i = v.0 as usize;
+    r[i] = true;
     r
 }
 
@@ -88,8 +79,8 @@ fn neighbours(skip: &[bool; 512], near: &[u16; 2048], far: &[u16; 2048], m: usiz
     let mut r = [false; 512];
     let mut i: usize = 0;
     while i < m {
-        let a = wide(near[i]);
-        let b = wide(far[i]);
+        let a = file::to_index(near[i]);
+        let b = file::to_index(far[i]);
         r[a] = r[a] | !skip[b];
         i += 1;
     }
@@ -97,9 +88,9 @@ fn neighbours(skip: &[bool; 512], near: &[u16; 2048], far: &[u16; 2048], m: usiz
 }
 
 // The near ends of the edges whose far end is v.
-fn neighbours_of(v: usize, near: &[u16; 2048], far: &[u16; 2048], m: usize) -> [bool; 512]
-    requires { ⌜ (v < 512) × EndsBelow (now near) (now far) m ⌝ }
-    ensures { λ r. ⌜ Neighbours (set everyNode v false) (now (near .entry)) (now (far .entry)) m r ⌝ }
+fn neighbours_of(v: NodeIndex, near: &[u16; 2048], far: &[u16; 2048], m: usize) -> [bool; 512]
+    requires { ⌜ (v .0 < 512) × EndsBelow (now near) (now far) m ⌝ }
+    ensures { λ r. ⌜ Neighbours (set everyNode (v .0) false) (now (near .entry)) (now (far .entry)) m r ⌝ }
 {
     let others = all_but(v);
     neighbours(&others, near, far, m)
@@ -113,8 +104,8 @@ fn sweep_up(mark: &mut [bool; 512], near: &[u16; 2048], far: &[u16; 2048], m: us
     let mut moved = false;
     let mut i: usize = 0;
     while i < m {
-        let a = wide(near[i]);
-        let b = wide(far[i]);
+        let a = file::to_index(near[i]);
+        let b = file::to_index(far[i]);
         let old = mark[a];
         let new = mark[b];
         mark[a] = old | new;
@@ -133,8 +124,8 @@ fn sweep_down(mark: &mut [bool; 512], near: &[u16; 2048], far: &[u16; 2048], m: 
     let mut i: usize = m;
     while 0 < i {
         i -= 1;
-        let a = wide(near[i]);
-        let b = wide(far[i]);
+        let a = file::to_index(near[i]);
+        let b = file::to_index(far[i]);
         let old = mark[a];
         let new = mark[b];
         mark[a] = old | new;
@@ -168,10 +159,10 @@ fn spread(mark: &mut [bool; 512], near: &[u16; 2048], far: &[u16; 2048], m: usiz
 }
 
 // An edge leads to a larger number, which is not below the last edge's.
-fn rises(from: u16, to: u16, last: u16) -> bool
-    ensures { λ r. ⌜ r ≡ (ltb from to && leb last to) ⌝ }
+fn rises(from: NodeIndex, to: NodeIndex, last: NodeIndex) -> bool
+    ensures { λ r. ⌜ r ≡ (ltb (from .0) (to .0) && leb (last .0) (to .0)) ⌝ }
 {
-    (from < to) & (last <= to)
+    (from.0 < to.0) & (last.0 <= to.0)
 }
 
 // Does every edge lead to a larger number, and do these ascend along the list? So it is after insertions at the back alone. No branch on an
@@ -185,7 +176,7 @@ fn is_ordered(from: &[u16; 2048], to: &[u16; 2048], m: usize) -> bool
     let mut i: usize = 0;
     while i < m {
         let t = to[i];
-        ordered = ordered & rises(from[i], t, last);
+        ordered = ordered & rises(NodeIndex(from[i]), NodeIndex(t), NodeIndex(last));
         last = t;
         i += 1;
     }
@@ -193,15 +184,15 @@ fn is_ordered(from: &[u16; 2048], to: &[u16; 2048], m: usize) -> bool
 }
 
 // An index from which on the edges lead above v, by halving; their targets ascend.
-fn leads_above(to: &[u16; 2048], m: usize, v: usize) -> usize
+fn leads_above(to: &[u16; 2048], m: usize, v: NodeIndex) -> usize
     requires { ⌜ (m ≤ 2048) × ((i j : ℕ) → i ≤ j → j < m → getD (now to) i 0 ≤ getD (now to) j 0) ⌝ }
-    ensures { λ r. ⌜ LeadsAbove (now (to .entry)) m v r ⌝ }
+    ensures { λ r. ⌜ LeadsAbove (now (to .entry)) m (v .0) r ⌝ }
 {
     let mut low: usize = 0;
     let mut high: usize = m;
     while low < high {
         let mid = low + (high - low) / 2;
-        if v < wide(to[mid]) {
+        if v.0 < to[mid] {
             high = mid;
         } else {
             low = mid + 1;
@@ -218,17 +209,17 @@ fn settle(mark: &mut [bool; 512], near: &[u16; 2048], far: &[u16; 2048], k: usiz
     let mut i: usize = k;
     while 0 < i {
         i -= 1;
-        let a = wide(near[i]);
-        let b = wide(far[i]);
+        let a = file::to_index(near[i]);
+        let b = file::to_index(far[i]);
         mark[a] = mark[a] | mark[b];
     }
 }
 
-fn is_kept(mark: &[bool; 512], skip: &[bool; 512], u: usize) -> bool
-    requires { ⌜ u < 512 ⌝ }
-    ensures { λ r. ⌜ r ≡ (getD (now (mark .entry)) u false && not (getD (now (skip .entry)) u false)) ⌝ }
+// A node that is marked and not skipped.
+fn is_kept(marked: bool, skipped: bool) -> bool
+    ensures { λ r. ⌜ r ≡ (marked && not skipped) ⌝ }
 {
-    mark[u] & !skip[u]
+    marked & !skipped
 }
 
 // How many of the nodes below n are marked and not skipped.
@@ -239,7 +230,7 @@ fn count_kept(mark: &[bool; 512], skip: &[bool; 512], n: usize) -> usize
     let mut k: usize = 0;
     let mut u: usize = 0;
     while u < n {
-        if is_kept(mark, skip, u) {
+        if is_kept(mark[u], skip[u]) {
             k += 1;
         }
         u += 1;
@@ -255,7 +246,7 @@ fn write_kept(mark: &[bool; 512], skip: &[bool; 512], n: usize, buffer: &mut [u1
     let mut k: usize = start;
     let mut u: usize = 0;
     while u < n {
-        if is_kept(mark, skip, u) {
+        if is_kept(mark[u], skip[u]) {
             buffer[k] = u as u16;
             k += 1;
         }
@@ -277,12 +268,12 @@ fn answer_kept(mark: &[bool; 512], skip: &[bool; 512], n: usize, buffer: &mut [u
 }
 
 // The first index of v in the list; its length where v does not stand there.
-fn index_in(list: &[u16], v: u16) -> usize
-    ensures { λ r. ⌜ FirstAt v (now (list .entry)) r ⌝ }
+fn index_in(list: &[u16], v: NodeIndex) -> usize
+    ensures { λ r. ⌜ FirstAt (v .0) (now (list .entry)) r ⌝ }
 {
     let mut i: usize = 0;
     while i < list.len() {
-        if list[i] == v {
+        if list[i] == v.0 {
             return i;
         }
         i += 1;
@@ -303,9 +294,9 @@ fn copy_part(list: &[u16], a: usize, e: usize, buffer: &mut [u16], start: usize)
 }
 
 // The node v and those from which it is reached: marks from v against the edges. In an ordered list no edge that leads above v counts.
-fn ancestors(from: &[u16; 2048], to: &[u16; 2048], m: usize, v: usize) -> [bool; 512]
-    requires { ⌜ EndsBelow (now from) (now to) m × (v < 512) ⌝ }
-    ensures { λ r. ⌜ Closed (now (from .entry)) (now (to .entry)) m (set noNode v true) r ⌝ }
+fn ancestors(from: &[u16; 2048], to: &[u16; 2048], m: usize, v: NodeIndex) -> [bool; 512]
+    requires { ⌜ EndsBelow (now from) (now to) m × (v .0 < 512) ⌝ }
+    ensures { λ r. ⌜ Closed (now (from .entry)) (now (to .entry)) m (set noNode (v .0) true) r ⌝ }
 {
     let mut mark = only(v);
     if is_ordered(from, to, m) {
@@ -327,15 +318,15 @@ fn waiting(skip: &[bool; 512], from: &[u16; 2048], to: &[u16; 2048], m: usize) -
     mark
 }
 
-// The answer of a layer that stays.
-fn answer_same(layer: &[u16], buffer: &mut [u16]) -> Query
-    ensures { λ r. ⌜ record { answer = r; buffer = now (buffer .exit) } ≡ answers (now (layer .entry)) (now (buffer .entry)) ⌝ }
+// The answer of a query whose entries are a list.
+pub(crate) fn answer_list(list: &[u16], buffer: &mut [u16]) -> Query
+    ensures { λ r. ⌜ record { answer = r; buffer = now (buffer .exit) } ≡ answers (now (list .entry)) (now (buffer .entry)) ⌝ }
 {
-    let len = layer.len();
+    let len = list.len();
     if buffer.len() < len {
         return Query::Refused(Refusal::ShortBuffer);
     }
-    copy_part(layer, 0, len, buffer, 0);
+    copy_part(list, 0, len, buffer, 0);
     Query::Entries(len)
 }
 
@@ -380,7 +371,7 @@ fn answer_layer(
 {
     let k = count_kept(mark, skip, n);
     if k == 0 {
-        return answer_same(layer, buffer);
+        return answer_list(layer, buffer);
     }
     answer_next(mark, skip, n, k, layer, i, buffer)
 }
@@ -393,15 +384,14 @@ pub fn execution_blocked(g: CircuitDag, executed: &[u16], v: NodeIndex, buffer: 
         return Query::Refused(Refusal::Unsound);
     }
     let n = g.nodes.count;
-    let x = wide(v.0);
-    if n <= x {
+    if n <= file::to_index(v.0) {
         return Query::Refused(Refusal::Absent);
     }
     let m = g.edges.count;
     let from = g.edges.from;
     let to = g.edges.to;
-    let mark = ancestors(&from, &to, m, x);
-    let skip = listed_with(executed, x);
+    let mark = ancestors(&from, &to, m, v);
+    let skip = listed_with(executed, v);
     answer_kept(&mark, &skip, n, buffer)
 }
 
@@ -418,14 +408,13 @@ pub fn blocking_predecessors(
         return Query::Refused(Refusal::Unsound);
     }
     let n = g.nodes.count;
-    let x = wide(v.0);
-    if n <= x {
+    if n <= file::to_index(v.0) {
         return Query::Refused(Refusal::Absent);
     }
     let m = g.edges.count;
     let from = g.edges.from;
     let to = g.edges.to;
-    let mark = neighbours_of(x, &from, &to, m);
+    let mark = neighbours_of(v, &from, &to, m);
     let skip = listed(executed);
     answer_kept(&mark, &skip, n, buffer)
 }
@@ -438,15 +427,14 @@ pub fn successors(g: CircuitDag, v: NodeIndex, buffer: &mut [u16]) -> Query
         return Query::Refused(Refusal::Unsound);
     }
     let n = g.nodes.count;
-    let x = wide(v.0);
-    if n <= x {
+    if n <= file::to_index(v.0) {
         return Query::Refused(Refusal::Absent);
     }
     let m = g.edges.count;
     let from = g.edges.from;
     let to = g.edges.to;
-    let mark = neighbours_of(x, &to, &from, m);
-    let skip = none();
+    let mark = neighbours_of(v, &to, &from, m);
+    let skip = no_marks();
     answer_kept(&mark, &skip, n, buffer)
 }
 
@@ -465,24 +453,23 @@ pub fn new_front_layer(
         return Query::Refused(Refusal::Unsound);
     }
     let n = g.nodes.count;
-    let x = wide(v.0);
-    if n <= x {
+    if n <= file::to_index(v.0) {
         return Query::Refused(Refusal::Absent);
     }
-    let i = index_in(layer, v.0);
+    let i = index_in(layer, v);
     if layer.len() <= i {
         return Query::Refused(Refusal::NotInLayer);
     }
     let m = g.edges.count;
     let from = g.edges.from;
     let to = g.edges.to;
-    let next = neighbours_of(x, &to, &from, m);
-    let blank = none();
+    let next = neighbours_of(v, &to, &from, m);
+    let blank = no_marks();
     let all = count_kept(&next, &blank, n);
     if all == 0 {
         return answer_next(&next, &blank, n, all, layer, i, buffer);
     }
-    let skip = listed_with(executed, x);
+    let skip = listed_with(executed, v);
     let bad = waiting(&skip, &from, &to, m);
     answer_layer(&next, &bad, n, layer, i, buffer)
 }

@@ -19,13 +19,6 @@ fn hint_cell(key: RegisterKey) -> usize
     ((key.name as usize) * 256 + (key.index as usize)) % 2048
 }
 
-// x as a position: here the cast is known to fit, which it is not of an element of a lent array.
-pub(crate) fn widened(x: u16) -> usize
-    ensures { λ r. ⌜ r ≡ x ⌝ }
-{
-    x as usize
-}
-
 // The key's position among the entries, by comparing each.
 fn scan_keys(name: &[u8; 256], index: &[u16; 256], count: usize, key: RegisterKey) -> usize
     requires { ⌜ count ≤ 256 ⌝ }
@@ -55,7 +48,7 @@ fn find_key(
     ensures { λ r. ⌜ Found count (now (name .entry)) (now (index .entry)) key r ⌝ }
 {
     let cell = hint_cell(key);
-    let p = widened(hints[cell]);
+    let p = file::to_index(hints[cell]);
     if p < count {
         if name[p] == key.name {
             if index[p] == key.index {
@@ -192,7 +185,7 @@ fn mark_keys(
             let i = index[at];
             if i < m {
                 node[at] = v.0;
-                there[widened(i)] = true;
+                there[file::to_index(i)] = true;
             }
         }
     }
@@ -222,7 +215,7 @@ fn append_keys(
     while j < m {
         let i = j;
         j += 1;
-        let known = there[widened(i)];
+        let known = there[file::to_index(i)];
         if !known {
             if 256 <= n {
                 return 257;

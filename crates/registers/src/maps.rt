@@ -2,26 +2,14 @@
 ghost use mathlib.Core.Path.{_≡_};
 ghost use mathlib.Core.Bool.{_&&_, _||_};
 ghost use lib.Dec.{ltb};
-ghost use Rattle.file.specs.Records.{front};
 ghost use Rattle.graph.specs.Soundness.{registerMapRule};
 ghost use Rattle.registers.specs.Registers.{stopped as noMaps, registerRecords, registerRecord};
 use crate::Registered;
 use crate::entries::EndCounts;
 use crate::entries::enter_record;
-use crate::entries::widened;
 use file::InvolvedClassical;
 use graph::NodeIndex;
 use graph::Registers;
-
-// Whether the record is for the front; a byte past the end counts as 0.
-fn is_front(part: &[u8]) -> bool
-    ensures { λ r. ⌜ r ≡ front (now (part .entry)) ⌝ }
-{
-    if part.len() == 0 {
-        return false;
-    }
-    part[0] == 1
-}
 
 // Whether a register map would pass 256.
 fn maps_pass(m: EndCounts) -> bool
@@ -60,7 +48,7 @@ pub fn register_records(file: &[u8], order: &[u16]) -> Registered
         if 512 <= k {
             return no_maps(k);
         }
-        let part = file::part_of(file, widened(order[k]));
+        let part = file::part_of(file, file::to_index(order[k]));
         let classical = file::involved_classical(part);
         let v = NodeIndex(k as u16);
         let at = k;
@@ -70,7 +58,7 @@ pub fn register_records(file: &[u8], order: &[u16]) -> Registered
             continue;
         }
         let m = enter_record(
-            is_front(part),
+            file::is_front(part),
             part,
             classical,
             v,
@@ -112,7 +100,7 @@ pub fn register_records(file: &[u8], order: &[u16]) -> Registered
 fn maps_fit(first: Registers, last: Registers, v: NodeIndex) -> bool
     ensures { λ r. ⌜ r ≡ (registerMapRule (v .0) first && registerMapRule (v .0) last) ⌝ }
 {
-    let n = widened(v.0);
+    let n = file::to_index(v.0);
     if graph::is_register_map(first, n) {
         return graph::is_register_map(last, n);
     }
@@ -139,7 +127,7 @@ pub fn register_record(first: Registers, last: Registers, part: &[u8], v: NodeIn
     let mut last_node = last.node;
     let mut last_hints = [0u16; 2048];
     let m = enter_record(
-        is_front(part),
+        file::is_front(part),
         part,
         file::involved_classical(part),
         v,

@@ -1,7 +1,7 @@
 // The text is written from a place on, and each function returns the place behind what it wrote.
 ghost use mathlib.Core.Path.{_≡_};
 ghost use mathlib.Core.Bool.{true};
-ghost use mathlib.Core.List.{[], _∷_, _++_};
+ghost use mathlib.Core.List.{[]};
 ghost use Prim.Native.Nat.{_+_, _*_, _-_, _≤_, _<_};
 ghost use lib.ListN.{length, replicate};
 ghost use lib.Seq.{sets};
@@ -13,6 +13,7 @@ use crate::Text;
 use file::Refusal;
 use file::RefusalValue;
 use graph::CircuitDag;
+use graph::NodeIndex;
 use insertion::Outcome;
 use walk::BlockCount;
 
@@ -59,18 +60,19 @@ fn write_bytes(s: &[u8], out: &mut [u8], at: usize) -> usize
 }
 
 // A space and the number of node v, if it is listed.
-fn write_node(listed: bool, v: usize, out: &mut [u8], at: usize) -> usize
-    requires { ⌜ v < 512 ⌝ }
-    requires { ⌜ at + 4 * length (consIf listed v []) ≤ length (now out) ⌝ }
+fn write_node(listed: bool, v: NodeIndex, out: &mut [u8], at: usize) -> usize
+    requires { ⌜ v .0 < 512 ⌝ }
+    requires { ⌜ at + 4 * length (consIf listed (v .0) []) ≤ length (now out) ⌝ }
     requires { ⌜ length (now out) ≤ 5120 ⌝ }
-    ensures { λ r. ⌜ r ≡ at + length (nodesText (consIf listed v [])) ⌝ }
-    ensures { λ _. ⌜ now (out .exit) ≡ sets (now (out .entry)) at (nodesText (consIf listed v [])) ⌝ }
+    ensures { λ r. ⌜ r ≡ at + length (nodesText (consIf listed (v .0) [])) ⌝ }
+    ensures { λ _. ⌜ now (out .exit) ≡ sets (now (out .entry)) at (nodesText (consIf listed (v .0) [])) ⌝ }
 {
+    let number = v.0 as usize;
     if !listed {
         return at;
     }
     out[at] = 32;
-    write_digits(20, v, out, at + 1)
+    write_digits(20, number, out, at + 1)
 }
 
 // A space and its number for each node v below n with numbers[v] == t.
@@ -85,7 +87,7 @@ fn write_nodes(numbers: &[u16], n: usize, t: u16, out: &mut [u8], at: usize) -> 
     let mut place = at;
     let mut v: usize = 0;
     while v < n {
-        place = write_node(numbers[v] == t, v, out, place);
+        place = write_node(numbers[v] == t, NodeIndex(v as u16), out, place);
         v += 1;
     }
     place

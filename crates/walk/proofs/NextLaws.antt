@@ -2,7 +2,7 @@
 use mathlib.Core.Path.{_≡_, refl, sym, _∙_, ap}
 use mathlib.Core.Bool.{Bool, true, false, cond, not, _&&_, _||_}
 use mathlib.Core.List.{List, [], _∷_}
-use Prim.Native.Nat.{ℕ, zero, suc, _≤_, _<_}
+use Prim.Native.Nat.{ℕ, _≤_, _<_}
 use native.Mathlib.Omega.{arith}
 use lib.Dec.{ltb, eqb}
 use lib.ListN.{length}
@@ -15,7 +15,7 @@ use Rattle.graph.specs.Dag.{size}
 use Rattle.graph.specs.Soundness.{sound}
 use Rattle.walk.specs.declared.ParallelBlocks.{ParallelBlocks}
 use Rattle.walk.specs.declared.NextBlock.the-variants.{Block, None, Refused}
-use Rattle.walk.specs.Blocks.{joined, unstarted, followers, nextBlock, Stepped, refusesStep, steps, next}
+use Rattle.walk.specs.Blocks.{joined, unstarted, followers, Stepped, refusesStep, steps, next}
 use Rattle.walk.specs.Numbering.{freeAfter}
 use Rattle.walk.proofs.StepLaws.{marks-members}
 

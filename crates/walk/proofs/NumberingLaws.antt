@@ -3,16 +3,16 @@ use mathlib.Core.Path.{_≡_, refl, sym, _∙_, ap}
 use mathlib.Core.Bool.{Bool, true, false, cond, _||_}
 use mathlib.Core.Logic.{_⊎_, inl, inr, ⊎-elim, _≢_}
 use mathlib.Core.List.{List, [], _∷_, _++_, map, append-assoc}
-use Prim.Native.Nat.{ℕ, zero, suc, _+_, _-_, _≤_, _<_, min, max}
+use Prim.Native.Nat.{ℕ, zero, suc, _+_, _-_, _≤_, _<_, max}
 use native.Mathlib.Omega.{arith}
 use native.Mathlib.Numerals.{add-one}
 use native.Mathlib.Decide.{decLt, ℕ-discrete}
 use lib.Dec.{ltb}
 use lib.ListN.{length, getD, set, drop, length-set}
 use lib.Seq.{getD-set-same, getD-set-other, set-getD, set-at, drop-cons}
-use borrow.Author.Tests.{ltb-true, lt-ltb, le-ltb}
+use borrow.Author.Tests.{ltb-true, lt-ltb}
 use Rattle.file.specs.Lists.{onto, upTo}
-use Rattle.graph.proofs.BoolLaws.{bool-cases, clash-bool, split-lt}
+use Rattle.graph.proofs.BoolLaws.{clash-bool, split-lt}
 use Rattle.graph.proofs.ListLaws.{length-upTo, upTo-suc}
 use Rattle.walk.specs.Numbering.{at, following, Joined, Above, Swept, Rises, Settled, Begun, Zeroed, Counted}
 

@@ -1,27 +1,27 @@
 -- A step of the walk by passes over the edges: each loop's invariant, and what the passes find. Assumes nothing.
 use mathlib.Core.Path.{_≡_, refl, sym, _∙_, ap}
 use mathlib.Core.Bool.{Bool, true, false, cond, not, _&&_, _||_}
-use mathlib.Core.Logic.{_⊎_, inl, inr, ⊎-elim, _≢_}
+use mathlib.Core.Logic.{_⊎_, inl, inr, ⊎-elim}
 use mathlib.Core.List.{List, [], _∷_, _++_, append-assoc, append-nil}
 use Prim.Native.Nat.{ℕ, zero, suc, _+_, _≤_, _<_}
 use native.Mathlib.Omega.{arith}
 use native.Mathlib.Numerals.{add-one}
 use native.Mathlib.Nat.{zero-add}
 use native.Mathlib.Decide.{decLt, ℕ-discrete}
-use lib.Dec.{eqb, ltb}
+use lib.Dec.{eqb}
 use lib.ListN.{length, getD, set, take, drop, replicate, length-set, length-replicate, take-append-drop, List·getD-eq-default}
 use lib.Seq.{getD-set-same, getD-set-other, drop-cons, drop-length, take-suc-set, drop-set-lt, drop-drop, ext-getD}
-use borrow.Author.Tests.{eq-eqb, ne-eqb, lt-ltb, ltb-true}
-use Rattle.file.specs.Lists.{anyOf, allOf, keep, consIf, isEmpty, onto, member, members, markedFrom, countFrom, upTo}
+use borrow.Author.Tests.{eq-eqb, ne-eqb}
+use Rattle.file.specs.Lists.{anyOf, keep, consIf, isEmpty, onto, member, members, markedFrom, countFrom}
 use Rattle.graph.specs.declared.CircuitDag.{CircuitDag}
 use Rattle.graph.specs.Dag.{size, hasEdge}
 use Rattle.graph.specs.Soundness.{sound}
 use Rattle.queries.specs.Reach.{blocking}
 use Rattle.graph.proofs.BoolLaws.{bool-cases, clash-bool, bool-ext, not-true, not-false, and-l, and-r, and-intro, or-cases, or-inl, or-inr, flip-not, split-lt}
-use Rattle.graph.proofs.ListLaws.{at-any, at-none, members-any, any-members, member-marked}
+use Rattle.graph.proofs.ListLaws.{members-any, any-members, member-marked}
 use Rattle.walk.specs.Blocks.{joined, marks}
-use Rattle.walk.specs.Numbering.{at, following, Joined, Above, Rises, Settled, Begun, Reaching, Freed, freeAfter}
-use Rattle.walk.proofs.Bounds.{any, and-any, any-and}
+use Rattle.walk.specs.Numbering.{at, Joined, Above, Rises, Settled, Begun, Reaching, Freed, freeAfter}
+use Rattle.walk.proofs.Bounds.{and-any, any-and}
 use Rattle.walk.proofs.BlockSteps.{edge-at, at-edge, marks-length, marks-at}
 use Rattle.walk.proofs.BlockLaws.{W, rank, upward}
 use Rattle.walk.proofs.BlockingLaws.{isBlocked, blocked-by-edges}
@@ -86,23 +86,6 @@ module _ (a b : List Bool) where
   pub joining-done : {all : List Bool} {v : ℕ} → Joining all v → 512 ≤ v → all ≡ joined a b
   joining-done {all} {v} I le = ext-getD false all (joined a b) (I .long ∙ sym (joined-length a b (I .one ∙ sym (I .other)) ∙ I .other))
       (λ u l. I .each u (omega (arith, I .long)) ∙ sym (joined-at a b u))
-
--- ---- a member
-
-module _ (a : List Bool) where
-  pub record Unmarked (v : ℕ) : Type 0 where
-    pub low : v ≤ 512
-    pub long : length a ≡ 512
-    pub none : (u : ℕ) → u < v → getD a u false ≡ false
-
-  pub member-found : {v : ℕ} → Unmarked v → v < 512 → getD a v false ≡ true → true ≡ anyOf (λ (b : Bool). b) a
-  member-found {v} I h e = sym (at-any (λ (b : Bool). b) a false v (omega (arith, I .long)) e)
-
-  pub member-more : {v : ℕ} → Unmarked v → v < 512 → getD a v false ≡ false → Unmarked (v + 1)
-  member-more {v} I h e = record { low = omega arith; long = I .long; none = λ u l. ⊎-elim (λ (q : u ≡ v). ap (λ (w : ℕ). getD a w false) q ∙ e) (λ (q : u < v). I .none u q) (split-lt u v l) }
-
-  pub member-none : {v : ℕ} → Unmarked v → 512 ≤ v → false ≡ anyOf (λ (b : Bool). b) a
-  member-none {v} I le = sym (at-none (λ (b : Bool). b) a false (λ u l. I .none u (omega (arith, I .long))))
 
 -- ---- the targets of chosen nodes
 

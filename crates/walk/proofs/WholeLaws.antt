@@ -2,14 +2,14 @@
 use mathlib.Core.Path.{_≡_, refl, sym, _∙_, ap}
 use mathlib.Core.Bool.{Bool, true, false, cond, not, _&&_}
 use mathlib.Core.Logic.{_⊎_, inl, inr, ⊎-elim}
-use mathlib.Core.List.{List, [], map}
+use mathlib.Core.List.{List, map}
 use Prim.Native.Nat.{ℕ, zero, suc, _≤_, _<_}
 use native.Mathlib.Omega.{arith}
 use native.Mathlib.Decide.{decLt}
 use lib.Dec.{ltb}
-use lib.ListN.{length, getD, List·getD-eq-default}
+use lib.ListN.{length, List·getD-eq-default}
 use borrow.Author.Tests.{ltb-true, lt-ltb, le-ltb}
-use Rattle.file.specs.Lists.{isEmpty, member, onto, upTo}
+use Rattle.file.specs.Lists.{isEmpty, onto, upTo}
 use Rattle.file.specs.declared.Refusal.the-variants.{ShortBuffer, Unsound}
 use Rattle.graph.specs.declared.CircuitDag.{CircuitDag}
 use Rattle.graph.specs.Dag.{size}
@@ -18,10 +18,10 @@ use Rattle.graph.proofs.BoolLaws.{bool-cases, clash-bool, not-true, not-false, 
 use Rattle.graph.proofs.ListLaws.{upTo-ext}
 use Rattle.graph.proofs.SoundnessLaws.{sound-told}
 use Rattle.walk.specs.declared.BlockCount.the-variants.{Blocks, Refused as NotWalked}
-use Rattle.walk.specs.Blocks.{blocks, numberFrom, Walked, wholeWalk}
+use Rattle.walk.specs.Blocks.{blocks, numberFrom, wholeWalk}
 use Rattle.walk.specs.Guarantee.{blockOfStep}
 use Rattle.walk.specs.Numbering.{at, following, Joined, Above, Rises, Settled, Begun, Zeroed, Counted}
-use Rattle.walk.proofs.Bounds.{any, any-elim, any-none, any-and, greatest, greatest-le, greatest-at}
+use Rattle.walk.proofs.Bounds.{any, any-elim, any-none, any-and, greatest-le, greatest-at}
 use Rattle.walk.proofs.BlockSteps.{edge-at, at-edge, not-empty, empty-not, block-at}
 use Rattle.walk.proofs.BlockLaws.{W, edges, firsts, rank, upward, first-start, block-number, last-step, before-last, past-last, number-is}
 use Rattle.walk.proofs.NumberLaws.{numberOf, Numbered, inBlock, inNone, number-cases, number-first, greatestBefore, number-next, number-alone, number-behind}

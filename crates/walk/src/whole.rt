@@ -1,14 +1,14 @@
 // The whole walk and its single step, both found by passes over the edge list.
 ghost use mathlib.Core.Path.{_≡_};
-ghost use mathlib.Core.Bool.{Bool, true, false, cond, not, _&&_, _||_};
-ghost use mathlib.Core.List.{List, _++_, map};
-ghost use Prim.Native.Nat.{ℕ, _+_, _-_, _≤_, _<_, min, max};
+ghost use mathlib.Core.Bool.{true, false, cond, not, _&&_, _||_};
+ghost use mathlib.Core.List.{map};
+ghost use Prim.Native.Nat.{ℕ, _+_, _-_, _≤_, _<_, max};
 ghost use lib.Dec.{ltb, eqb};
-ghost use lib.ListN.{length, getD, replicate};
-ghost use Rattle.file.specs.Lists.{anyOf, allOf, members, onto, upTo};
+ghost use lib.ListN.{length};
+ghost use Rattle.file.specs.Lists.{members, onto, upTo};
 ghost use Rattle.graph.specs.Dag.{size};
 ghost use Rattle.graph.specs.Soundness.{sound};
-ghost use Rattle.walk.specs.Blocks.{Walked, wholeWalk, blocks, numberFrom, joined, start, Stepped, next};
+ghost use Rattle.walk.specs.Blocks.{wholeWalk, blocks, numberFrom, joined, start, next};
 ghost use Rattle.walk.specs.Numbering.{at, following, Joined, Swept, Settled, Begun, Zeroed, Counted, Reaching, Freed, freeAfter};
 use crate::BlockCount;
 use crate::NextBlock;
@@ -16,13 +16,6 @@ use crate::ParallelBlocks;
 use crate::WalkStep;
 use file::Refusal;
 use graph::CircuitDag;
-
-// A node number as an index. A call, since `a[i] as usize` would ask that the element fits.
-fn wide(x: u16) -> usize
-    ensures { λ r. ⌜ r ≡ x ⌝ }
-{
-    x as usize
-}
 
 // The number of an edge's end: at least one more than its start's, 65535 staying.
 fn raised(old: u16, before: u16) -> u16
@@ -68,8 +61,8 @@ fn sweep(from: &[u16; 2048], to: &[u16; 2048], m: usize, down: bool, num: &mut [
     let mut i: usize = 0;
     while i < m {
         let j = edge_in_turn(i, m, down);
-        let f = wide(from[j]);
-        let t = wide(to[j]);
+        let f = file::to_index(from[j]);
+        let t = file::to_index(to[j]);
         let old = num[t];
         let new = raised(old, num[f]);
         num[t] = new;
@@ -132,7 +125,7 @@ fn number_targets(to: &[u16; 2048], m: usize, num: &mut [u16; 512])
 {
     let mut i: usize = 0;
     while i < m {
-        let t = wide(to[i]);
+        let t = file::to_index(to[i]);
         num[t] = 0;
         i += 1;
     }
@@ -201,7 +194,7 @@ fn numbers_of(g: CircuitDag) -> [u16; 512]
 pub fn whole_walk(g: CircuitDag, buffer: &mut [u16]) -> BlockCount
     ensures { λ r. ⌜ record { answer = r; buffer = now (buffer .exit) } ≡ wholeWalk g (now (buffer .entry)) ⌝ }
 {
-    if !graph::soundness::is_sound(g) {
+    if !graph::is_sound(g) {
         return BlockCount::Refused(Refusal::Unsound);
     }
     let n = g.nodes.count;
@@ -212,13 +205,6 @@ pub fn whole_walk(g: CircuitDag, buffer: &mut [u16]) -> BlockCount
     write_numbers(&num, n, buffer);
     let count = count_blocks(&num, n);
     BlockCount::Blocks(count)
-}
-
-// The set without members.
-fn no_marks() -> [bool; 512]
-    ensures { λ r. ⌜ r ≡ replicate 512 false ⌝ }
-{
-    [false; 512]
 }
 
 // One of two, by the code's own tests.
@@ -241,26 +227,12 @@ fn is_free(a: bool, x: u16) -> bool
     a
 }
 
-// The members are nodes of the graph.
-fn marks_below(block: &[bool; 512], n: usize) -> bool
-    requires { ⌜ (n ≤ 512) × (length (now block) ≡ 512) ⌝ }
-    ensures { λ r. ⌜ r ≡ allOf (λ (v : ℕ). ltb v n) (members (now (block .entry))) ⌝ }
-{
-    let mut above = false;
-    let mut v: usize = n;
-    while v < 512 {
-        above = above | block[v];
-        v += 1;
-    }
-    !above
-}
-
 // The members of either set.
 fn join_marks(a: &[bool; 512], b: &[bool; 512]) -> [bool; 512]
     requires { ⌜ (length (now a) ≡ 512) × (length (now b) ≡ 512) ⌝ }
     ensures { λ r. ⌜ r ≡ joined (now (a .entry)) (now (b .entry)) ⌝ }
 {
-    let mut all = no_marks();
+    let mut all = graph::no_marks();
     let mut v: usize = 0;
     while v < 512 {
         all[v] = is_either(a[v], b[v]);
@@ -269,31 +241,16 @@ fn join_marks(a: &[bool; 512], b: &[bool; 512]) -> [bool; 512]
     all
 }
 
-// A set has a member.
-fn has_member(a: &[bool; 512]) -> bool
-    requires { ⌜ length (now a) ≡ 512 ⌝ }
-    ensures { λ r. ⌜ r ≡ anyOf (λ (b : Bool). b) (now (a .entry)) ⌝ }
-{
-    let mut v: usize = 0;
-    while v < 512 {
-        if a[v] {
-            return true;
-        }
-        v += 1;
-    }
-    false
-}
-
 // The nodes with an edge from a chosen one.
 fn targets_of(from: &[u16; 2048], to: &[u16; 2048], m: usize, chosen: &[bool; 512]) -> [bool; 512]
     requires { ⌜ Joined (now from) (now to) m ⌝ }
     ensures { λ r. ⌜ Reaching (now (from .entry)) (now (to .entry)) m (now (chosen .entry)) r ⌝ }
 {
-    let mut found = no_marks();
+    let mut found = graph::no_marks();
     let mut i: usize = 0;
     while i < m {
-        let f = wide(from[i]);
-        let t = wide(to[i]);
+        let f = file::to_index(from[i]);
+        let t = file::to_index(to[i]);
         found[t] = is_either(found[t], chosen[f]);
         i += 1;
     }
@@ -313,8 +270,8 @@ fn take_waiting(
 {
     let mut i: usize = 0;
     while i < m {
-        let f = wide(from[i]);
-        let t = wide(to[i]);
+        let f = file::to_index(from[i]);
+        let t = file::to_index(to[i]);
         found[t] = is_free(found[t], num[f]);
         i += 1;
     }
@@ -427,16 +384,16 @@ impl ParallelBlocks {
         ensures { λ r. ⌜ record { answer = r .answer; walk = r .walk; buffer = now (buffer .exit) }
             ≡ next g self (now (buffer .entry)) ⌝ }
     {
-        if !graph::soundness::is_sound(g) {
+        if !graph::is_sound(g) {
             return refuse_step(self, Refusal::Unsound);
         }
         let n = g.nodes.count;
         let current = self.current;
-        if !marks_below(&current, n) {
+        if !graph::members_below(current, n) {
             return refuse_step(self, Refusal::Absent);
         }
         let executed = self.executed;
-        let started = is_either(has_member(&current), has_member(&executed));
+        let started = is_either(graph::has_member(current), graph::has_member(executed));
         let all = join_marks(&current, &executed);
         let found = find_block(g, current, all, started);
         let k = count_members(&found);

@@ -4,7 +4,7 @@ use Rattle.file.specs.Pairs.{checkFile}
 use borrow.Author.Tests.{lt-ltb}
 use lib.ListN.{length}
 use Prim.Native.Nat.{_-_}
-use mathlib.Core.Path.{_≡_, refl, sym, _∙_, ap}
+use mathlib.Core.Path.{_≡_, refl}
 use borrow.Author.Needs.{needs}
 use Rattle.file.proofs.pairs.check_file.Statement.{statement}
 use Rattle.file.proofs.pairs.check_file.Tie as tie

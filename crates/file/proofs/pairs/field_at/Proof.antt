@@ -1,6 +1,6 @@
 -- `file::pairs::field_at` meets its contract. Assumes nothing.
 use Rattle.file.proofs.PairLaws.{field-past, field-last}
-use mathlib.Core.Path.{_≡_, refl, sym, _∙_, ap}
+use mathlib.Core.Path.{sym, _∙_}
 use native.Mathlib.Omega.{arith}
 use borrow.Author.Needs.{needs}
 use Rattle.file.proofs.pairs.field_at.Statement.{statement}

@@ -1,6 +1,6 @@
 -- `file::pairs::locate_record` meets its contract. Assumes nothing.
 use Rattle.file.proofs.PairLaws.{accepted, reach, at-place, not-there}
-use mathlib.Core.Path.{_≡_, refl, sym, _∙_, ap}
+use mathlib.Core.Path.{refl, sym, _∙_}
 use native.Mathlib.Omega.{arith}
 use borrow.Author.Needs.{needs}
 use Rattle.file.proofs.pairs.locate_record.Statement.{statement}

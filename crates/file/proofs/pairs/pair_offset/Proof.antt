@@ -1,6 +1,6 @@
 -- `file::pairs::pair_offset` meets its contract. Assumes nothing.
 use Rattle.file.proofs.PairLaws.{field-past}
-use mathlib.Core.Path.{_≡_, refl, sym, _∙_, ap}
+use mathlib.Core.Path.{sym}
 use native.Mathlib.Omega.{arith}
 use borrow.Author.Needs.{needs}
 use Rattle.file.proofs.pairs.pair_offset.Statement.{statement}

@@ -1,4 +1,6 @@
 -- `file::pairs::part_of` meets its contract. Assumes nothing.
+use mathlib.Core.Path.{refl}
+use native.Mathlib.Omega.{arith}
 use Rattle.file.proofs.PairLaws.{part-past, part-cut, part-whole}
 use borrow.Author.Needs.{needs}
 use Rattle.file.proofs.pairs.part_of.Statement.{statement}
@@ -44,13 +46,25 @@ part-result-end-3 : tie.Need-part-result-end-3
 part-result-end-3 c = search needs
 
 returns : tie.Need-returns
-returns c = part-past _ _ _ _ (c .before .before .before .pair-offset .ensures) (c .before .before .pair-length .ensures) (c .before .if1 .taken)
+returns c = record {
+  bytes = part-past _ _ _ _ (c .before .before .before .pair-offset .ensures) (c .before .before .pair-length .ensures) (c .before .if1 .taken);
+  block = refl;
+  start = omega (arith, c .before .before .before .pair-offset .ensures, c .before .if1 .taken);
+}
 
 returns-2 : tie.Need-returns-2
-returns-2 c = part-cut _ _ _ _ (c .before .before .before .before .pair-offset .ensures) (c .before .before .before .pair-length .ensures) (c .before .if2 .taken)
+returns-2 c = record {
+  bytes = part-cut _ _ _ _ (c .before .before .before .before .pair-offset .ensures) (c .before .before .before .pair-length .ensures) (c .before .if2 .taken);
+  block = refl;
+  start = omega (arith, c .before .before .before .before .pair-offset .ensures, c .before .before .if1 .left);
+}
 
 returns-3 : tie.Need-returns-3
-returns-3 c = part-whole _ _ _ _ (c .before .before .before .before .pair-offset .ensures) (c .before .before .before .pair-length .ensures)
+returns-3 c = record {
+  bytes = part-whole _ _ _ _ (c .before .before .before .before .pair-offset .ensures) (c .before .before .before .pair-length .ensures);
+  block = refl;
+  start = omega (arith, c .before .before .before .before .pair-offset .ensures, c .before .before .if1 .left);
+}
 
 pub part-of-spec : {M : Type 1} → statement M
 part-of-spec =

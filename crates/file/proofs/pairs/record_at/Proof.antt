@@ -1,6 +1,6 @@
 -- `file::pairs::record_at` meets its contract. Assumes nothing.
 use Rattle.file.proofs.PairLaws.{located, is-part, no-part}
-use mathlib.Core.Path.{_≡_, refl, sym, _∙_, ap}
+use mathlib.Core.Path.{refl, sym, _∙_}
 use native.Mathlib.Omega.{arith}
 use borrow.Author.Needs.{needs}
 use Rattle.file.proofs.pairs.record_at.Statement.{statement}

@@ -1,7 +1,7 @@
 -- `file::records::entry_before` meets its contract. Assumes nothing.
 use Rattle.file.specs.Records.{entryBefore}
 use borrow.Author.Tests.{eq-eqb, ne-eqb, lt-ltb, le-ltb}
-use mathlib.Core.Path.{_≡_, refl, sym, _∙_, ap}
+use mathlib.Core.Path.{refl}
 use borrow.Author.Needs.{needs}
 use Rattle.file.proofs.records.entry_before.Statement.{statement}
 use Rattle.file.proofs.records.entry_before.Tie as tie

@@ -1,8 +1,7 @@
 -- `file::records::involved_qubits` meets its contract. Assumes nothing.
 use Rattle.file.specs.Records.{qubitsBy}
 use borrow.Author.Tests.{ne-eqb}
-use mathlib.Core.Path.{_≡_, refl, sym, _∙_, ap}
-use borrow.Author.Needs.{needs}
+use mathlib.Core.Path.{refl}
 use Rattle.file.proofs.records.involved_qubits.Statement.{statement}
 use Rattle.file.proofs.records.involved_qubits.Tie as tie
 

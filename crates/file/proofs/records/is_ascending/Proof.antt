@@ -2,9 +2,9 @@
 use Rattle.file.proofs.RecordLaws.{ascend-turn, ascend-end}
 use Rattle.file.specs.Records.{ascendFrom}
 use mathlib.Core.Bool.{true, false}
-use Prim.Native.Nat.{_+_, _-_, _≤_}
+use Prim.Native.Nat.{_-_, _≤_}
 use native.Mathlib.Omega.{arith}
-use mathlib.Core.Path.{_≡_, refl, sym, _∙_, ap}
+use mathlib.Core.Path.{_≡_, refl, sym, _∙_}
 use borrow.Author.Needs.{needs}
 use Rattle.file.proofs.records.is_ascending.Statement.{statement}
 use Rattle.file.proofs.records.is_ascending.Tie as tie

@@ -2,7 +2,7 @@
 use Rattle.file.proofs.RecordLaws.{set-short}
 use Rattle.file.specs.Records.{setRule}
 use borrow.Author.Tests.{eq-eqb, ne-eqb, le-leb, lt-leb}
-use mathlib.Core.Path.{_≡_, refl, sym, _∙_, ap}
+use mathlib.Core.Path.{refl}
 use borrow.Author.Needs.{needs}
 use Rattle.file.proofs.records.is_set.Statement.{statement}
 use Rattle.file.proofs.records.is_set.Tie as tie

@@ -2,8 +2,7 @@
 use Rattle.file.specs.Records.{definitionRule}
 use borrow.Author.Tests.{eq-eqb, ne-eqb, le-leb, lt-leb}
 use native.Mathlib.Omega.{arith}
-use mathlib.Core.Path.{_≡_, refl, sym, _∙_, ap}
-use borrow.Author.Needs.{needs}
+use mathlib.Core.Path.{refl}
 use Rattle.file.proofs.records.kind_fits.Statement.{statement}
 use Rattle.file.proofs.records.kind_fits.Tie as tie
 

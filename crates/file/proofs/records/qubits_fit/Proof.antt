@@ -2,8 +2,7 @@
 use Rattle.file.specs.Records.{qubitRule}
 use borrow.Author.Tests.{lt-leb}
 use native.Mathlib.Omega.{arith}
-use mathlib.Core.Path.{_≡_, refl, sym, _∙_, ap}
-use borrow.Author.Needs.{needs}
+use mathlib.Core.Path.{refl}
 use Rattle.file.proofs.records.qubits_fit.Statement.{statement}
 use Rattle.file.proofs.records.qubits_fit.Tie as tie
 

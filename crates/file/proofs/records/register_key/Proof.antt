@@ -1,6 +1,6 @@
 -- `file::records::register_key` meets its contract. Assumes nothing.
 use Rattle.file.proofs.RecordLaws.{no-entry}
-use mathlib.Core.Path.{_≡_, refl, sym, _∙_, ap}
+use mathlib.Core.Path.{refl}
 use native.Mathlib.Omega.{arith}
 use borrow.Author.Needs.{needs}
 use Rattle.file.proofs.records.register_key.Statement.{statement}

@@ -1,7 +1,7 @@
 -- `file::records::tail_fits` meets its contract. Assumes nothing.
 use Rattle.file.specs.Records.{tailRule}
 use borrow.Author.Tests.{ne-eqb}
-use mathlib.Core.Path.{_≡_, refl, sym, _∙_, ap}
+use mathlib.Core.Path.{refl}
 use borrow.Author.Needs.{needs}
 use Rattle.file.proofs.records.tail_fits.Statement.{statement}
 use Rattle.file.proofs.records.tail_fits.Tie as tie

@@ -1,5 +1,5 @@
 -- `file::refusals::refusal_value` meets its contract. Assumes nothing.
-use mathlib.Core.Path.{_≡_, refl, sym, _∙_, ap}
+use mathlib.Core.Path.{refl}
 use borrow.Author.Needs.{needs}
 use Rattle.file.proofs.refusals.refusal_value.Statement.{statement}
 use Rattle.file.proofs.refusals.refusal_value.Tie as tie

@@ -15,20 +15,20 @@ abbrev μ-loop : tie.MeasureT-loop
 loop-holds : tie.Need-loop-holds Inv-loop μ-loop
 loop-holds c = record { room = c .pre; long = search needs; passed = omega arith; below = λ j k. absurd (omega arith); under = λ j k. absurd (omega arith); rising = λ j k a b. absurd (omega arith); last = λ k. absurd (omega arith) }
 
-mul-wide : tie.Need-mul-wide Inv-loop μ-loop
-mul-wide c = search needs
+mul-to-index : tie.Need-mul-to-index Inv-loop μ-loop
+mul-to-index c = search needs
 
-element-copy-out-wide : tie.Need-element-copy-out-wide Inv-loop μ-loop
-element-copy-out-wide c = search needs
+element-copy-out-to-index : tie.Need-element-copy-out-to-index Inv-loop μ-loop
+element-copy-out-to-index c = search needs
 
-wide-requires : tie.Need-wide-requires Inv-loop μ-loop
-wide-requires c κs = search needs
+to-index-requires : tie.Need-to-index-requires Inv-loop μ-loop
+to-index-requires c κs = search needs
 
 returns : tie.Need-returns Inv-loop μ-loop
-returns c = let d = c .before .before .before in entry-falls (d .before .loop .inv) _ (d .loop-test .taken) (c .before .wide .ensures) (c .if1 .taken)
+returns c = let d = c .before .before .before in entry-falls (d .before .loop .inv) _ (d .loop-test .taken) (c .before .to-index .ensures) (c .if1 .taken)
 
 returns-2 : tie.Need-returns-2 Inv-loop μ-loop
-returns-2 c = let d = c .before .before .before .before in entry-above (d .before .loop .inv) _ (d .loop-test .taken) (c .before .before .wide .ensures) (c .if2 .taken)
+returns-2 c = let d = c .before .before .before .before in entry-above (d .before .loop .inv) _ (d .loop-test .taken) (c .before .before .to-index .ensures) (c .if2 .taken)
 
 add-low : tie.Need-add-low Inv-loop μ-loop
 add-low c = search needs
@@ -40,7 +40,7 @@ loop-less : tie.Need-loop-less Inv-loop μ-loop
 loop-less c = search needs
 
 loop-again : tie.Need-loop-again Inv-loop μ-loop
-loop-again c = let d = c .before .before .before .before in entry-more (d .before .loop .inv) _ (d .loop-test .taken) (c .before .before .wide .ensures) (c .before .if1 .left) (c .if2 .left)
+loop-again c = let d = c .before .before .before .before in entry-more (d .before .loop .inv) _ (d .loop-test .taken) (c .before .before .to-index .ensures) (c .before .if1 .left) (c .if2 .left)
 
 returns-3 : tie.Need-returns-3 Inv-loop μ-loop
 returns-3 c = entries-done (c .before .loop .inv) (c .loop-test .left)
@@ -52,9 +52,9 @@ commuting-fits-spec =
     Inv-loop
     μ-loop
     loop-holds
-    mul-wide
-    element-copy-out-wide
-    wide-requires
+    mul-to-index
+    element-copy-out-to-index
+    to-index-requires
     returns
     returns-2
     add-low

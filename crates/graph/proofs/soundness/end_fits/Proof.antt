@@ -11,11 +11,11 @@ names-fit-requires c κs = search needs
 returns : tie.Need-returns
 returns c = rw (sym (c .before .names-fit .ensures) ∙ not-true _ (c .if1 .taken)) refl
 
-block-below-requires : tie.Need-block-below-requires
-block-below-requires c κs = search needs
+members-below-requires : tie.Need-members-below-requires
+members-below-requires c κs = search needs
 
 returns-2 : tie.Need-returns-2
-returns-2 c = let d = c .before .before .before in rw (sym (d .before .names-fit .ensures) ∙ not-false _ (d .if1 .left)) (c .block-below .ensures)
+returns-2 c = let d = c .before .before in rw (sym (d .before .names-fit .ensures) ∙ not-false _ (d .if1 .left)) (c .members-below .ensures)
 
 pub end-fits-spec : {M : Type 1} → statement M
-end-fits-spec = tie.close (tie.spec names-fit-requires returns block-below-requires returns-2)
+end-fits-spec = tie.close (tie.spec names-fit-requires returns members-below-requires returns-2)

@@ -23,11 +23,11 @@ returns c = let a = c .before .before .args in head-unfit (a .all .0) (a .node .
 loop-holds : tie.Need-loop-holds Inv-loop μ-loop
 loop-holds c = record { fit = c .before .before .pre .0; low = omega arith; long = c .before .before .pre .1; each = λ u k. absurd (omega arith) }
 
-mul-names-operation : tie.Need-mul-names-operation Inv-loop μ-loop
-mul-names-operation c = search needs
+mul-t9 : tie.Need-mul-t9 Inv-loop μ-loop
+mul-t9 c = search needs
 
-element-copy-out-names-operation : tie.Need-element-copy-out-names-operation Inv-loop μ-loop
-element-copy-out-names-operation c = search needs
+element-copy-out-t12 : tie.Need-element-copy-out-t12 Inv-loop μ-loop
+element-copy-out-t12 c = search needs
 
 names-operation-requires-2 : tie.Need-names-operation-requires-2 Inv-loop μ-loop
 names-operation-requires-2 c κs = search needs
@@ -56,8 +56,8 @@ names-fit-spec =
     names-operation-requires
     returns
     loop-holds
-    mul-names-operation
-    element-copy-out-names-operation
+    mul-t9
+    element-copy-out-t12
     names-operation-requires-2
     returns-2
     add-q

@@ -16,17 +16,17 @@ abbrev μ-loop : tie.MeasureT-loop
 loop-holds : tie.Need-loop-holds Inv-loop μ-loop
 loop-holds c = record { room = c .before .before .pre; low = omega arith; long = refl; below = λ j k. absurd (omega arith); marks = none-marked _ 2048; apart = λ j k a b. absurd (omega arith) }
 
-mul-wide : tie.Need-mul-wide Inv-loop μ-loop
-mul-wide c = search needs
+mul-to-index : tie.Need-mul-to-index Inv-loop μ-loop
+mul-to-index c = search needs
 
-element-copy-out-wide : tie.Need-element-copy-out-wide Inv-loop μ-loop
-element-copy-out-wide c = search needs
+element-copy-out-to-index : tie.Need-element-copy-out-to-index Inv-loop μ-loop
+element-copy-out-to-index c = search needs
 
-wide-requires : tie.Need-wide-requires Inv-loop μ-loop
-wide-requires c κs = search needs
+to-index-requires : tie.Need-to-index-requires Inv-loop μ-loop
+to-index-requires c κs = search needs
 
 returns : tie.Need-returns Inv-loop μ-loop
-returns c = node-above (c .before .before .before .before .loop .inv) _ (c .before .before .before .loop-test .taken) (c .before .wide .ensures) (c .if1 .taken)
+returns c = node-above (c .before .before .before .before .loop .inv) _ (c .before .before .before .loop-test .taken) (c .before .to-index .ensures) (c .if1 .taken)
 
 array-read-cell-of : tie.Need-array-read-cell-of Inv-loop μ-loop
 array-read-cell-of c = search needs
@@ -59,7 +59,7 @@ loop-less : tie.Need-loop-less Inv-loop μ-loop
 loop-less c = search needs
 
 loop-again : tie.Need-loop-again Inv-loop μ-loop
-loop-again c = key-new (c .before .before .before .before .before .before .before .before .before .loop .inv) _ _ (c .before .before .before .before .before .before .before .before .loop-test .taken) (c .before .before .before .before .cell-of .ensures) (c .before .before .before .before .before .before .wide .ensures) (c .before .before .before .before .before .if1 .left) (sym (c .before .is-taken .ensures) ∙ c .if2 .left)
+loop-again c = key-new (c .before .before .before .before .before .before .before .before .before .loop .inv) _ _ (c .before .before .before .before .before .before .before .before .loop-test .taken) (c .before .before .before .before .cell-of .ensures) (c .before .before .before .before .before .before .to-index .ensures) (c .before .before .before .before .before .if1 .left) (sym (c .before .is-taken .ensures) ∙ c .if2 .left)
 
 returns-3 : tie.Need-returns-3 Inv-loop μ-loop
 returns-3 c = registers-done (c .before .loop .inv) (c .loop-test .left)
@@ -71,9 +71,9 @@ registers-fit-spec =
     Inv-loop
     μ-loop
     loop-holds
-    mul-wide
-    element-copy-out-wide
-    wide-requires
+    mul-to-index
+    element-copy-out-to-index
+    to-index-requires
     returns
     array-read-cell-of
     mul-cell-of

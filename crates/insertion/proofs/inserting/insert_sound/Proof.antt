@@ -1,10 +1,8 @@
 -- `insertion::inserting::insert_sound` meets its contract. Assumes nothing.
 use Rattle.insertion.proofs.InsertLaws.{few-nodes, linked-once, stays, lists-fit, passes, grown-is}
-use Rattle.file.proofs.RecordLaws.{parsed, not-parsed, rule}
--- `insertion::inserting::insert_sound` meets its contract. Assumes nothing.
-use mathlib.Core.Path.{_≡_, refl, sym, _∙_, ap}
+use Rattle.file.proofs.RecordLaws.{parsed, not-parsed}
+use mathlib.Core.Path.{sym, _∙_}
 use native.Mathlib.Omega.{arith}
-use Rattle.graph.specs.declared.CircuitDag.{CircuitDag}
 use Rattle.graph.proofs.SizeLaws.{dag-sized}
 use Rattle.insertion.proofs.PartLaws.{broken}
 use borrow.Author.Needs.{needs}
@@ -57,7 +55,7 @@ node-lists-requires : tie.Need-node-lists-requires
 node-lists-requires c κs = search needs
 
 list-node-requires : tie.Need-list-node-requires
-list-node-requires c κs = let g = c .before .before .before .before .before .before .before .before .before .before .before .before .args .g in let z = dag-sized g _ (c .before .before .before .before .before .before .before .before .before .before .before .before .good .0) in let p = parsed _ _ (sym (c .before .before .before .before .before .before .before .before .before .before .parse-record .ensures) ∙ c .before .before .before .before .before .before .before .before .parsed .given .1) in let f = lists-fit g (c .before .before .before .before .before .before .before .before .before .before .before .before .pre) z _ (p .0) _ (linked-once g (c .before .before .before .before .before .before .before .before .before .before .before .before .pre) z _ (p .0) _ _ (p .1) (c .before .before .before .before .before .before .link-node .ensures)) (c .before .before .before .before .enum-told2 .given .1) _ (c .node-lists .ensures) in (rule _ (p .0) .long, f .0, f .1, f .2, f .3)
+list-node-requires c κs = let g = c .before .before .before .before .before .before .before .before .before .before .before .before .args .g in let z = dag-sized g _ (c .before .before .before .before .before .before .before .before .before .before .before .before .good .0) in let p = parsed _ _ (sym (c .before .before .before .before .before .before .before .before .before .before .parse-record .ensures) ∙ c .before .before .before .before .before .before .before .before .parsed .given .1) in lists-fit g (c .before .before .before .before .before .before .before .before .before .before .before .before .pre) z _ (p .0) _ (linked-once g (c .before .before .before .before .before .before .before .before .before .before .before .before .pre) z _ (p .0) _ _ (p .1) (c .before .before .before .before .before .before .link-node .ensures)) (c .before .before .before .before .enum-told2 .given .1) _ (c .node-lists .ensures)
 
 assemble-requires : tie.Need-assemble-requires
 assemble-requires c κs = search needs

@@ -3,10 +3,9 @@ use mathlib.Core.Path.{_∙_, ap}
 use native.Mathlib.Omega.{arith}
 use Rattle.graph.specs.declared.CircuitDag.{CircuitDag}
 use Rattle.insertion.specs.declared.Outcome.the-variants.{Done}
-use Rattle.insertion.specs.declared.Loaded.{Loaded}
 use Rattle.insertion.specs.declared.nodes.NodeLists.{NodeLists}
 use Rattle.insertion.specs.Parts.{assembled}
-use Rattle.insertion.proofs.LoadLaws.{linked-few, all-long, many, stops, done}
+use Rattle.insertion.proofs.LoadLaws.{linked-few, many, stops, done}
 use borrow.Author.Needs.{needs}
 use Rattle.insertion.proofs.loading.insert_in_order.Statement.{statement}
 use Rattle.insertion.proofs.loading.insert_in_order.Tie as tie
@@ -29,20 +28,20 @@ part-register-records-end c = omega (arith, linked-few _ _ _ (c .link-records .e
 register-records-requires : tie.Need-register-records-requires
 register-records-requires c κs = search needs
 
-mul-widened : tie.Need-mul-widened
-mul-widened c = omega (arith, c .if1 .taken, linked-few _ _ _ (c .before .before .before .link-records .ensures), c .before .before .before .before .before .before .pre)
+mul-to-index : tie.Need-mul-to-index
+mul-to-index c = omega (arith, c .if1 .taken, linked-few _ _ _ (c .before .before .before .link-records .ensures), c .before .before .before .before .before .before .pre)
 
-shared-slice-read-widened : tie.Need-shared-slice-read-widened
-shared-slice-read-widened c = omega (arith, c .before .if1 .taken, linked-few _ _ _ (c .before .before .before .before .link-records .ensures))
+shared-slice-read-to-index : tie.Need-shared-slice-read-to-index
+shared-slice-read-to-index c = omega (arith, c .before .if1 .taken, linked-few _ _ _ (c .before .before .before .before .link-records .ensures))
 
-widened-requires : tie.Need-widened-requires
-widened-requires c κs = search needs
+to-index-requires : tie.Need-to-index-requires
+to-index-requires c κs = search needs
 
 not-loaded-requires : tie.Need-not-loaded-requires
 not-loaded-requires c κs = search needs
 
 returns : tie.Need-returns
-returns c = c .not-loaded .ensures ∙ many _ _ _ (c .before .before .before .before .before .before .link-records .ensures) (c .before .before .before .before .before .before .before .before .before .pre) _ (c .before .before .before .before .register-records .ensures) (c .before .before .before .if1 .taken) _ (c .before .widened .ensures)
+returns c = c .not-loaded .ensures ∙ many _ _ _ (c .before .before .before .before .before .before .link-records .ensures) (c .before .before .before .before .before .before .before .before .before .pre) _ (c .before .before .before .before .register-records .ensures) (c .before .before .before .if1 .taken) _ (c .before .to-index .ensures)
 
 enum-known-answer : tie.Need-enum-known-answer
 enum-known-answer c = search needs
@@ -57,7 +56,7 @@ enum-told : tie.Need-enum-told
 enum-told c = search needs
 
 list-nodes-requires : tie.Need-list-nodes-requires
-list-nodes-requires c κs = (c .before .before .before .before .before .before .before .before .pre, all-long _ _ _ (c .before .before .before .before .before .link-records .ensures) (c .enum-told .given .1))
+list-nodes-requires c κs = c .before .before .before .before .before .before .before .before .pre
 
 assemble-requires : tie.Need-assemble-requires
 assemble-requires c κs = search needs
@@ -75,9 +74,9 @@ insert-in-order-spec =
     part-register-records-start
     part-register-records-end
     register-records-requires
-    mul-widened
-    shared-slice-read-widened
-    widened-requires
+    mul-to-index
+    shared-slice-read-to-index
+    to-index-requires
     not-loaded-requires
     returns
     enum-known-answer

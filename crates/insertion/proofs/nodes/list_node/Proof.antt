@@ -15,7 +15,7 @@ insertions-at-requires : tie.Need-insertions-at-requires
 insertions-at-requires c κs = search needs
 
 put-node-requires : tie.Need-put-node-requires
-put-node-requires c κs = let p = c .before .before .before .before .before .before .before .before .before .before .before .before .pre in (p .1, rw (c .before .before .before .before .insertions-at .ensures) (end-below (c .before .before .before .before .before .is-front .result) _ _ (p .3) (p .4)), p .0)
+put-node-requires c κs = let p = c .before .before .before .before .before .before .before .before .before .before .before .before .pre in (p .0, rw (c .before .before .before .before .insertions-at .ensures) (end-below (c .before .before .before .before .before .is-front .result) _ _ (p .2) (p .3)))
 
 put-commuting-requires : tie.Need-put-commuting-requires
 put-commuting-requires c κs = search needs

@@ -1,5 +1,5 @@
 -- `insertion::nodes::list_nodes` meets its contract. Assumes nothing.
-use Rattle.insertion.proofs.NodeLaws.{Listing, begin, again, end, long, end-under, place-read}
+use Rattle.insertion.proofs.NodeLaws.{Listing, begin, again, end, end-under, place-read}
 use Prim.Native.Nat.{_-_}
 use lib.ListN.{length}
 use native.Mathlib.Omega.{arith}
@@ -19,14 +19,14 @@ abbrev μ-loop : tie.MeasureT-loop
 loop-holds : tie.Need-loop-holds Inv-loop μ-loop
 loop-holds c = begin _ _
 
-mul-widened : tie.Need-mul-widened Inv-loop μ-loop
-mul-widened c = search needs
+mul-to-index : tie.Need-mul-to-index Inv-loop μ-loop
+mul-to-index c = search needs
 
-shared-slice-read-widened : tie.Need-shared-slice-read-widened Inv-loop μ-loop
-shared-slice-read-widened c = search needs
+shared-slice-read-to-index : tie.Need-shared-slice-read-to-index Inv-loop μ-loop
+shared-slice-read-to-index c = search needs
 
-widened-requires : tie.Need-widened-requires Inv-loop μ-loop
-widened-requires c κs = search needs
+to-index-requires : tie.Need-to-index-requires Inv-loop μ-loop
+to-index-requires c κs = search needs
 
 part-of-requires : tie.Need-part-of-requires Inv-loop μ-loop
 part-of-requires c κs = search needs
@@ -35,16 +35,19 @@ cast-t20 : tie.Need-cast-t20 Inv-loop μ-loop
 cast-t20 c = search needs
 
 is-front-requires : tie.Need-is-front-requires Inv-loop μ-loop
-is-front-requires c κs = long (c .before .before .before .before .before .before .before .args .file .now) (c .before .before .before .before .before .before .before .args .order .now) (c .before .before .before .before .loop .k) (c .before .before .before .before .before .before .before .pre .1) (c .before .before .before .loop-test .taken) _ (c .before .widened .ensures) _ (c .part-of .ensures)
+is-front-requires c κs = search needs
 
 insertions-at-requires : tie.Need-insertions-at-requires Inv-loop μ-loop
 insertions-at-requires c κs = search needs
 
 put-node-requires : tie.Need-put-node-requires Inv-loop μ-loop
-put-node-requires c κs = let low = c .before .before .before .before .before .before .before .before .before .loop-test .taken in let small = c .before .before .before .before .before .before .before .before .before .before .before .before .before .pre .0 in (omega (arith, low, small), rw (c .before .before .before .before .insertions-at .ensures) (end-under (c .before .before .before .before .before .is-front .result) _ _ _ (c .before .before .before .before .before .before .before .before .before .before .loop .inv .ends) (omega (arith, low, small))), long (c .before .before .before .before .before .before .before .before .before .before .before .before .before .args .file .now) (c .before .before .before .before .before .before .before .before .before .before .before .before .before .args .order .now) (c .before .before .before .before .before .before .before .before .before .before .loop .k) (c .before .before .before .before .before .before .before .before .before .before .before .before .before .pre .1) low _ (c .before .before .before .before .before .before .before .widened .ensures) _ (c .before .before .before .before .before .before .part-of .ensures))
+put-node-requires c κs =
+    let low = c .before .before .before .before .before .before .before .before .before .loop-test .taken in
+    let small = c .before .before .before .before .before .before .before .before .before .before .before .before .before .pre in
+    (omega (arith, low, small), rw (c .before .before .before .before .insertions-at .ensures) (end-under (c .before .before .before .before .before .is-front .result) _ _ _ (c .before .before .before .before .before .before .before .before .before .before .loop .inv .ends) (omega (arith, low, small))))
 
 put-commuting-requires : tie.Need-put-commuting-requires Inv-loop μ-loop
-put-commuting-requires c κs = let low = c .before .before .before .before .before .before .before .before .before .before .before .loop-test .taken in let small = c .before .before .before .before .before .before .before .before .before .before .before .before .before .before .before .pre .0 in (omega (arith, low, small, c .before .before .before .before .before .before .before .before .before .before .before .before .loop .inv .few), long (c .before .before .before .before .before .before .before .before .before .before .before .before .before .before .before .args .file .now) (c .before .before .before .before .before .before .before .before .before .before .before .before .before .before .before .args .order .now) (c .before .before .before .before .before .before .before .before .before .before .before .before .loop .k) (c .before .before .before .before .before .before .before .before .before .before .before .before .before .before .before .pre .1) low _ (c .before .before .before .before .before .before .before .before .before .widened .ensures) _ (c .before .before .before .before .before .before .before .before .part-of .ensures))
+put-commuting-requires c κs = omega (arith, c .before .before .before .before .before .before .before .before .before .before .before .loop-test .taken, c .before .before .before .before .before .before .before .before .before .before .before .before .before .before .before .pre, c .before .before .before .before .before .before .before .before .before .before .before .before .loop .inv .few)
 
 one-more-requires : tie.Need-one-more-requires Inv-loop μ-loop
 one-more-requires c κs = search needs
@@ -59,7 +62,7 @@ loop-less : tie.Need-loop-less Inv-loop μ-loop
 loop-less c = search needs
 
 loop-again : tie.Need-loop-again Inv-loop μ-loop
-loop-again c = let x = c .before .before .before .before .before .before .before .before .before .before .before .before .before .before .before .loop in let n = c .before .before .before .before .put-node .ensures in let k = c .before .before .put-commuting .ensures in let e = c .before .before .before .before .before .before .before .before .before .before .is-front .ensures in again (c .before .before .before .before .before .before .before .before .before .before .before .before .before .before .before .before .before .before .args .file .now) (c .before .before .before .before .before .before .before .before .before .before .before .before .before .before .before .before .before .before .args .order .now) (x .k) _ (c .before .before .before .before .before .before .before .before .before .before .before .before .before .before .loop-test .taken) (x .inv) (c .before .before .before .before .before .before .before .before .before .before .before .before .widened .result) (c .before .before .before .before .before .before .before .before .before .before .before .part-of .result .now) _ (c .before .before .before .before .before .before .before .before .before .before .before .before .widened .ensures) (c .before .before .before .before .before .before .before .before .before .before .before .part-of .ensures) (record { count = refl; kind = n .0; form = n .1; label = n .2; place = n .3 ∙ place-read (x .place) (x .k) (c .before .before .before .before .before .before .before .before .before .before .is-front .result) (c .before .before .before .before .before .before .before .before .before .before .before .part-of .result .now) (c .before .before .before .before .before .before .before .before .before .insertions-at .result) (x .backs) (x .fronts) e (c .before .before .before .before .before .before .before .before .before .insertions-at .ensures); commuting = k .0; list = k .1; backs = rw (← e) (c .before .one-more .ensures); fronts = rw (← e) (c .one-more2 .ensures) })
+loop-again c = let x = c .before .before .before .before .before .before .before .before .before .before .before .before .before .before .before .loop in let n = c .before .before .before .before .put-node .ensures in let k = c .before .before .put-commuting .ensures in let e = c .before .before .before .before .before .before .before .before .before .before .is-front .ensures in again (c .before .before .before .before .before .before .before .before .before .before .before .before .before .before .before .before .before .before .args .file .now) (c .before .before .before .before .before .before .before .before .before .before .before .before .before .before .before .before .before .before .args .order .now) (x .k) _ (c .before .before .before .before .before .before .before .before .before .before .before .before .before .before .loop-test .taken) (x .inv) (c .before .before .before .before .before .before .before .before .before .before .before .before .to-index .result) (c .before .before .before .before .before .before .before .before .before .before .before .part-of .result .now) _ (c .before .before .before .before .before .before .before .before .before .before .before .before .to-index .ensures) (c .before .before .before .before .before .before .before .before .before .before .before .part-of .ensures .bytes) (record { count = refl; kind = n .0; form = n .1; label = n .2; place = n .3 ∙ place-read (x .place) (x .k) (c .before .before .before .before .before .before .before .before .before .before .is-front .result) (c .before .before .before .before .before .before .before .before .before .before .before .part-of .result .now) (c .before .before .before .before .before .before .before .before .before .insertions-at .result) (x .backs) (x .fronts) e (c .before .before .before .before .before .before .before .before .before .insertions-at .ensures); commuting = k .0; list = k .1; backs = rw (← e) (c .before .one-more .ensures); fronts = rw (← e) (c .one-more2 .ensures) })
 
 returns : tie.Need-returns Inv-loop μ-loop
 returns c = end _ _ _ _ (c .before .loop .inv) (c .loop-test .left)
@@ -71,9 +74,9 @@ list-nodes-spec =
     Inv-loop
     μ-loop
     loop-holds
-    mul-widened
-    shared-slice-read-widened
-    widened-requires
+    mul-to-index
+    shared-slice-read-to-index
+    to-index-requires
     part-of-requires
     cast-t20
     is-front-requires

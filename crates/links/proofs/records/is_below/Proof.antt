@@ -7,11 +7,11 @@ use Rattle.links.proofs.records.is_below.Tie as tie
 returns : tie.Need-returns
 returns c = rw (eq-eqb _ _ (c .if1 .taken)) refl
 
-widened-requires : tie.Need-widened-requires
-widened-requires c κs = tt
+to-index-requires : tie.Need-to-index-requires
+to-index-requires c κs = tt
 
 returns-2 : tie.Need-returns-2
-returns-2 c = rw (ne-eqb _ _ (c .before .if1 .left), ← c .widened .ensures) refl
+returns-2 c = rw (ne-eqb _ _ (c .before .if1 .left), ← c .to-index .ensures) refl
 
 pub is-below-spec : {M : Type 1} → statement M
-is-below-spec = tie.close (tie.spec returns widened-requires returns-2)
+is-below-spec = tie.close (tie.spec returns to-index-requires returns-2)

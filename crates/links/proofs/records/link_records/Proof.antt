@@ -20,14 +20,14 @@ abbrev μ-loop : tie.MeasureT-loop
 loop-holds : tie.Need-loop-holds Inv-loop μ-loop
 loop-holds c = (begin _ _, refl)
 
-mul-widened : tie.Need-mul-widened Inv-loop μ-loop
-mul-widened c = search needs
+mul-to-index : tie.Need-mul-to-index Inv-loop μ-loop
+mul-to-index c = search needs
 
-shared-slice-read-widened : tie.Need-shared-slice-read-widened Inv-loop μ-loop
-shared-slice-read-widened c = search needs
+shared-slice-read-to-index : tie.Need-shared-slice-read-to-index Inv-loop μ-loop
+shared-slice-read-to-index c = search needs
 
-widened-requires : tie.Need-widened-requires Inv-loop μ-loop
-widened-requires c κs = tt
+to-index-requires : tie.Need-to-index-requires Inv-loop μ-loop
+to-index-requires c κs = tt
 
 part-of-requires : tie.Need-part-of-requires Inv-loop μ-loop
 part-of-requires c κs = tt
@@ -45,13 +45,13 @@ links-stopped-requires : tie.Need-links-stopped-requires Inv-loop μ-loop
 links-stopped-requires c κs = tt
 
 returns : tie.Need-returns Inv-loop μ-loop
-returns c = let l = c .before .before .before .before .before .before .before .before in c .links-stopped .ensures ∙ bad-record _ _ _ _ _ _ _ _ _ _ _ _ (l .loop .inv .0) (c .before .before .before .before .before .before .before .loop-test .taken) _ (c .before .before .before .before .before .widened .ensures) _ (read-part _ _ _ _ _ (c .before .before .before .before .part-of .ensures) (c .before .before .before .parse-record .ensures) (c .before .enum-told .given .1))
+returns c = let l = c .before .before .before .before .before .before .before .before in c .links-stopped .ensures ∙ bad-record _ _ _ _ _ _ _ _ _ _ _ _ (l .loop .inv .0) (c .before .before .before .before .before .before .before .loop-test .taken) _ (c .before .before .before .before .before .to-index .ensures) _ (read-part _ _ _ _ _ (c .before .before .before .before .part-of .ensures .bytes) (c .before .before .before .parse-record .ensures) (c .before .enum-told .given .1))
 
 links-stopped-requires-2 : tie.Need-links-stopped-requires-2 Inv-loop μ-loop
 links-stopped-requires-2 c κs = tt
 
 returns-2 : tie.Need-returns-2 Inv-loop μ-loop
-returns-2 c = let l = c .before .before .before .before .before .before .before .before .before .before in c .links-stopped2 .ensures ∙ nodes-stop _ _ _ _ _ _ _ _ _ _ _ _ (l .loop .inv .0) (c .before .before .before .before .before .before .before .before .before .loop-test .taken) _ (c .before .before .before .before .before .before .before .widened .ensures) _ (read-part _ _ _ _ _ (c .before .before .before .before .before .before .part-of .ensures) (c .before .before .before .before .before .parse-record .ensures) (c .before .before .before .parsed .given .1)) (c .before .if1 .taken)
+returns-2 c = let l = c .before .before .before .before .before .before .before .before .before .before in c .links-stopped2 .ensures ∙ nodes-stop _ _ _ _ _ _ _ _ _ _ _ _ (l .loop .inv .0) (c .before .before .before .before .before .before .before .before .before .loop-test .taken) _ (c .before .before .before .before .before .before .before .to-index .ensures) _ (read-part _ _ _ _ _ (c .before .before .before .before .before .before .part-of .ensures .bytes) (c .before .before .before .before .before .parse-record .ensures) (c .before .before .before .parsed .given .1)) (c .before .if1 .taken)
 
 cast-t23 : tie.Need-cast-t23 Inv-loop μ-loop
 cast-t23 c = omega (arith, c .if1 .left)
@@ -63,7 +63,7 @@ links-stopped-requires-3 : tie.Need-links-stopped-requires-3 Inv-loop μ-loop
 links-stopped-requires-3 c κs = tt
 
 returns-3 : tie.Need-returns-3 Inv-loop μ-loop
-returns-3 c = let l = c .before .before .before .before .before .before .before .before .before .before .before .before .before .before .before .before .before .before .before .before .before in c .links-stopped3 .ensures ∙ edges-stop _ _ _ _ _ _ _ _ _ _ _ _ (l .loop .inv .0) (c .before .before .before .before .before .before .before .before .before .before .before .before .before .before .before .before .before .before .before .before .loop-test .taken) _ (c .before .before .before .before .before .before .before .before .before .before .before .before .before .before .before .before .before .before .widened .ensures) _ (read-part _ _ _ _ _ (c .before .before .before .before .before .before .before .before .before .before .before .before .before .before .before .before .before .part-of .ensures) (c .before .before .before .before .before .before .before .before .before .before .before .before .before .before .before .before .parse-record .ensures) (c .before .before .before .before .before .before .before .before .before .before .before .before .before .before .parsed .given .1)) _ _ _ _ _ _ _ (c .before .before .link-record .ensures .0) (c .before .before .before .before .before .before .before .before .before .before .before .before .if1 .left) (c .before .if2 .taken)
+returns-3 c = let l = c .before .before .before .before .before .before .before .before .before .before .before .before .before .before .before .before .before .before .before .before .before in c .links-stopped3 .ensures ∙ edges-stop _ _ _ _ _ _ _ _ _ _ _ _ (l .loop .inv .0) (c .before .before .before .before .before .before .before .before .before .before .before .before .before .before .before .before .before .before .before .before .loop-test .taken) _ (c .before .before .before .before .before .before .before .before .before .before .before .before .before .before .before .before .before .before .to-index .ensures) _ (read-part _ _ _ _ _ (c .before .before .before .before .before .before .before .before .before .before .before .before .before .before .before .before .before .part-of .ensures .bytes) (c .before .before .before .before .before .before .before .before .before .before .before .before .before .before .before .before .parse-record .ensures) (c .before .before .before .before .before .before .before .before .before .before .before .before .before .before .parsed .given .1)) _ _ _ _ _ _ _ (c .before .before .link-record .ensures .0) (c .before .before .before .before .before .before .before .before .before .before .before .before .if1 .left) (c .before .if2 .taken)
 
 add-k : tie.Need-add-k Inv-loop μ-loop
 add-k c = omega (arith, c .before .before .before .before .before .before .before .before .before .before .before .if1 .left)
@@ -72,7 +72,7 @@ loop-less : tie.Need-loop-less Inv-loop μ-loop
 loop-less c = omega (arith, c .before .before .before .before .before .before .before .before .before .before .before .before .before .before .before .before .before .before .before .loop-test .taken)
 
 loop-again : tie.Need-loop-again Inv-loop μ-loop
-loop-again c = let l = c .before .before .before .before .before .before .before .before .before .before .before .before .before .before .before .before .before .before .before .before in (again _ _ _ _ _ _ _ _ _ _ _ _ (l .loop .inv .0) (c .before .before .before .before .before .before .before .before .before .before .before .before .before .before .before .before .before .before .before .loop-test .taken) _ (c .before .before .before .before .before .before .before .before .before .before .before .before .before .before .before .before .before .widened .ensures) _ (read-part _ _ _ _ _ (c .before .before .before .before .before .before .before .before .before .before .before .before .before .before .before .before .part-of .ensures) (c .before .before .before .before .before .before .before .before .before .before .before .before .before .before .before .parse-record .ensures) (c .before .before .before .before .before .before .before .before .before .before .before .before .before .parsed .given .1)) _ _ _ _ _ _ _ (c .before .link-record .ensures .0) (c .before .before .before .before .before .before .before .before .before .before .before .if1 .left) (c .if2 .left), c .before .link-record .ensures .1)
+loop-again c = let l = c .before .before .before .before .before .before .before .before .before .before .before .before .before .before .before .before .before .before .before .before in (again _ _ _ _ _ _ _ _ _ _ _ _ (l .loop .inv .0) (c .before .before .before .before .before .before .before .before .before .before .before .before .before .before .before .before .before .before .before .loop-test .taken) _ (c .before .before .before .before .before .before .before .before .before .before .before .before .before .before .before .before .before .to-index .ensures) _ (read-part _ _ _ _ _ (c .before .before .before .before .before .before .before .before .before .before .before .before .before .before .before .before .part-of .ensures .bytes) (c .before .before .before .before .before .before .before .before .before .before .before .before .before .before .before .parse-record .ensures) (c .before .before .before .before .before .before .before .before .before .before .before .before .before .parsed .given .1)) _ _ _ _ _ _ _ (c .before .link-record .ensures .0) (c .before .before .before .before .before .before .before .before .before .before .before .if1 .left) (c .if2 .left), c .before .link-record .ensures .1)
 
 links-held-requires : tie.Need-links-held-requires Inv-loop μ-loop
 links-held-requires c κs = tt
@@ -87,9 +87,9 @@ link-records-spec =
     Inv-loop
     μ-loop
     loop-holds
-    mul-widened
-    shared-slice-read-widened
-    widened-requires
+    mul-to-index
+    shared-slice-read-to-index
+    to-index-requires
     part-of-requires
     parse-record-requires
     enum-known-parsed

@@ -28,11 +28,11 @@ returns c = first-above (ifPresent (λ u. ltb u (c .before .before .before .args
 loop-holds : tie.Need-loop-holds Inv-loop μ-loop
 loop-holds c = let s = c .before .before .before .before in (omega arith, end-sized (s .args .e) _ (s .good .0) .node, λ i l. absurd (omega arith))
 
-mul-is-below : tie.Need-mul-is-below Inv-loop μ-loop
-mul-is-below c = search needs
+mul-t9 : tie.Need-mul-t9 Inv-loop μ-loop
+mul-t9 c = search needs
 
-array-read-is-below : tie.Need-array-read-is-below Inv-loop μ-loop
-array-read-is-below c = search needs
+array-read-t12 : tie.Need-array-read-t12 Inv-loop μ-loop
+array-read-t12 c = search needs
 
 is-below-requires-2 : tie.Need-is-below-requires-2 Inv-loop μ-loop
 is-below-requires-2 c κs = tt
@@ -64,8 +64,8 @@ names-below-spec =
     is-below-requires
     returns
     loop-holds
-    mul-is-below
-    array-read-is-below
+    mul-t9
+    array-read-t12
     is-below-requires-2
     returns-2
     add-q

@@ -14,20 +14,20 @@ abbrev μ-loop : tie.MeasureT-loop
 loop-holds : tie.Need-loop-holds Inv-loop μ-loop
 loop-holds c = missing-begin _ _ _ (c .pre)
 
-mul-wide : tie.Need-mul-wide Inv-loop μ-loop
-mul-wide c = search needs
+mul-to-index : tie.Need-mul-to-index Inv-loop μ-loop
+mul-to-index c = search needs
 
-element-copy-out-wide : tie.Need-element-copy-out-wide Inv-loop μ-loop
-element-copy-out-wide c = search needs
+element-copy-out-to-index : tie.Need-element-copy-out-to-index Inv-loop μ-loop
+element-copy-out-to-index c = search needs
 
-wide-requires : tie.Need-wide-requires Inv-loop μ-loop
-wide-requires c κs = search needs
+to-index-requires : tie.Need-to-index-requires Inv-loop μ-loop
+to-index-requires c κs = search needs
 
 cast-t11 : tie.Need-cast-t11 Inv-loop μ-loop
 cast-t11 c = search needs
 
 returns : tie.Need-returns Inv-loop μ-loop
-returns c = member-found _ _ _ (c .before .before .before .before .loop .inv) (c .before .before .before .loop-test .taken) _ (c .before .wide .ensures) (c .if1 .taken)
+returns c = member-found _ _ _ (c .before .before .before .before .loop .inv) (c .before .before .before .loop-test .taken) _ (c .before .to-index .ensures) (c .if1 .taken)
 
 add-u : tie.Need-add-u Inv-loop μ-loop
 add-u c = search needs
@@ -36,7 +36,7 @@ loop-less : tie.Need-loop-less Inv-loop μ-loop
 loop-less c = search needs
 
 loop-again : tie.Need-loop-again Inv-loop μ-loop
-loop-again c = missing-more _ _ _ (c .before .before .before .before .loop .inv) (c .before .before .before .loop-test .taken) _ (c .before .wide .ensures) (c .if1 .left)
+loop-again c = missing-more _ _ _ (c .before .before .before .before .loop .inv) (c .before .before .before .loop-test .taken) _ (c .before .to-index .ensures) (c .if1 .left)
 
 returns-2 : tie.Need-returns-2 Inv-loop μ-loop
 returns-2 c = member-none _ _ _ (c .before .loop .inv) (c .loop-test .left)
@@ -48,9 +48,9 @@ smallest-member-spec =
     Inv-loop
     μ-loop
     loop-holds
-    mul-wide
-    element-copy-out-wide
-    wide-requires
+    mul-to-index
+    element-copy-out-to-index
+    to-index-requires
     cast-t11
     returns
     add-u

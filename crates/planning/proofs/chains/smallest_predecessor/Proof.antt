@@ -12,8 +12,8 @@ Inv-loop number from to m v block best₀ j₀ best j = Searching number from to
 abbrev μ-loop : tie.MeasureT-loop
 μ-loop number from to m v block best₀ j₀ best j = m - j
 
-from-low : (c : tie.After-wide Inv-loop μ-loop) → c .wide .result < 512
-from-low c = omega (arith, c .wide .ensures, c .before .before .before .loop .inv .joined .from-low _ (c .before .before .loop-test .taken))
+from-low : (c : tie.After-to-index Inv-loop μ-loop) → c .to-index .result < 512
+from-low c = omega (arith, c .to-index .ensures, c .before .before .before .loop .inv .joined .from-low _ (c .before .before .loop-test .taken))
 
 loop-holds : tie.Need-loop-holds Inv-loop μ-loop
 loop-holds c = search-begin _ _ _ _ _ _ (c .pre)
@@ -24,8 +24,8 @@ mul-node c = search needs
 element-copy-out-node : tie.Need-element-copy-out-node Inv-loop μ-loop
 element-copy-out-node c = search needs
 
-wide-requires : tie.Need-wide-requires Inv-loop μ-loop
-wide-requires c κs = search needs
+to-index-requires : tie.Need-to-index-requires Inv-loop μ-loop
+to-index-requires c κs = search needs
 
 mul-target : tie.Need-mul-target Inv-loop μ-loop
 mul-target c = search needs
@@ -49,7 +49,7 @@ loop-less : tie.Need-loop-less Inv-loop μ-loop
 loop-less c = search needs
 
 loop-again : tie.Need-loop-again Inv-loop μ-loop
-loop-again c = let d = c .before .before .before .before in search-more _ _ _ _ _ _ (d .before .before .loop .inv) (d .before .loop-test .taken) _ _ (c .before .before .before .wide .ensures) (c .smaller-of .ensures)
+loop-again c = let d = c .before .before .before .before in search-more _ _ _ _ _ _ (d .before .before .loop .inv) (d .before .loop-test .taken) _ _ (c .before .before .before .to-index .ensures) (c .smaller-of .ensures)
 
 returns : tie.Need-returns Inv-loop μ-loop
 returns c = search-done _ _ _ _ _ _ (c .before .loop .inv) (c .loop-test .left)
@@ -63,7 +63,7 @@ smallest-predecessor-spec =
     loop-holds
     mul-node
     element-copy-out-node
-    wide-requires
+    to-index-requires
     mul-target
     element-copy-out-target
     mul-smaller-of

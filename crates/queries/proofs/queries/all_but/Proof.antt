@@ -9,11 +9,14 @@ use Rattle.queries.proofs.queries.all_but.Tie as tie
 every-requires : tie.Need-every-requires
 every-requires c κs = search needs
 
+cast-i : tie.Need-cast-i
+cast-i c = search needs
+
 array-write-r : tie.Need-array-write-r
 array-write-r c = search needs
 
 returns : tie.Need-returns
-returns c = ap (λ (l : List Bool). set l (c .before .args .v) false) (c .every .ensures)
+returns c = ap (λ (l : List Bool). set l (c .before .before .args .v .0) false) (c .before .every .ensures)
 
 pub all-but-spec : {M : Type 1} → statement M
-all-but-spec = tie.close (tie.spec every-requires array-write-r returns)
+all-but-spec = tie.close (tie.spec every-requires cast-i array-write-r returns)

@@ -24,11 +24,11 @@ leads-above-requires c κs = (c .before .before .before .pre .0 .count, order c 
 settle-requires : tie.Need-settle-requires
 settle-requires c κs = let s = c .before .before .before .before .before in
     let k = c .before .leads-above .ensures .within in
-    (ends-fewer _ _ (s .args .m) _ k (s .pre .0), orders-fewer _ _ (s .args .m) _ k (order (c .before .before)), ap (λ (x : List Bool). length x) (c .before .before .before .before .only .ensures) ∙ length-set noNode (s .args .v) true ∙ none-long)
+    (ends-fewer _ _ (s .args .m) _ k (s .pre .0), orders-fewer _ _ (s .args .m) _ k (order (c .before .before)), ap (λ (x : List Bool). length x) (c .before .before .before .before .only .ensures) ∙ length-set noNode (s .args .v .0) true ∙ none-long)
 
 returns : tie.Need-returns
 returns c = let s = c .before .before .before .before .before .before in
-    settled-above (s .args .from .now) (s .args .to .now) (s .args .m) (c .before .before .leads-above .result) (s .args .v) (c .settle .last .0) (s .pre .1) (order (c .before .before .before)) (c .before .before .leads-above .ensures)
+    settled-above (s .args .from .now) (s .args .to .now) (s .args .m) (c .before .before .leads-above .result) (s .args .v .0) (c .settle .last .0) (s .pre .1) (order (c .before .before .before)) (c .before .before .leads-above .ensures)
     (subst (λ (x : List Bool). Closed (s .args .from .now) (s .args .to .now) (c .before .before .leads-above .result) x (c .settle .last .0)) (c .before .before .before .before .before .only .ensures) (c .settle .ensures))
 
 spread-requires : tie.Need-spread-requires

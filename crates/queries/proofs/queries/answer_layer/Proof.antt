@@ -8,8 +8,8 @@ use Rattle.queries.proofs.queries.answer_layer.Tie as tie
 count-kept-requires : tie.Need-count-kept-requires
 count-kept-requires c κs = search needs
 
-answer-same-requires : tie.Need-answer-same-requires
-answer-same-requires c κs = search needs
+answer-list-requires : tie.Need-answer-list-requires
+answer-list-requires c κs = search needs
 
 same-length : tie.Need-same-length
 same-length c = search needs
@@ -17,7 +17,7 @@ same-length c = search needs
 returns : tie.Need-returns
 returns c = let a = c .before .before .before .before .before .before .before .before .args in
     let freed = kept (a .mark .now) (a .skip .now) (a .n) in
-    answers-at (layerBy freed (a .layer .now) (a .i)) (a .layer .now) (a .buffer .now) _ (layer-stays freed (a .layer .now) (a .i) (length-none freed _ (c .before .before .before .before .before .count-kept .ensures) (c .before .before .before .before .if1 .taken))) (c .before .before .answer-same .ensures)
+    answers-at (layerBy freed (a .layer .now) (a .i)) (a .layer .now) (a .buffer .now) _ (layer-stays freed (a .layer .now) (a .i) (length-none freed _ (c .before .before .before .before .before .count-kept .ensures) (c .before .before .before .before .if1 .taken))) (c .before .before .answer-list .ensures)
 
 answer-next-requires : tie.Need-answer-next-requires
 answer-next-requires c κs = search needs
@@ -35,7 +35,7 @@ answer-layer-spec =
     tie.close
     (tie.spec
     count-kept-requires
-    answer-same-requires
+    answer-list-requires
     same-length
     returns
     answer-next-requires

@@ -18,8 +18,11 @@ told c = sym (c .before .is-sound .ensures) ∙ not-false _ (c .if1 .left)
 sound-of : (c : tie.Else1) → Sound (c .before .before .before .before .args .g)
 sound-of c = let g = c .before .before .before .before .args .g in sound-told g (dag-sized g _ (c .before .before .before .before .good .0) .commuting .list) (told c)
 
-node-low : (c : tie.Else2) → c .before .wide .result < 512
-node-low c = omega (arith, c .if2 .left, sound-of (c .before .before) .node-count)
+low : (c : tie.Else2) → c .before .before .before .before .before .before .args .v .0 < c .before .before .before .before .before .before .args .g .nodes .count
+low c = omega (arith, c .before .to-index .ensures, c .if2 .left)
+
+node-low : (c : tie.Else2) → c .before .before .before .before .before .before .args .v .0 < 512
+node-low c = omega (arith, low c, sound-of (c .before .before) .node-count)
 
 is-sound-requires : tie.Need-is-sound-requires
 is-sound-requires c κs = search needs
@@ -27,11 +30,11 @@ is-sound-requires c κs = search needs
 returns : tie.Need-returns
 returns c = let a = c .before .before .before .before .args in blocked-unsound (a .g) (a .executed .now) (a .v .0) (a .buffer .now) (sym (c .before .is-sound .ensures) ∙ not-true _ (c .if1 .taken))
 
-wide-requires : tie.Need-wide-requires
-wide-requires c κs = search needs
+to-index-requires : tie.Need-to-index-requires
+to-index-requires c κs = search needs
 
 returns-2 : tie.Need-returns-2
-returns-2 c = let a = c .before .before .before .before .before .before .args in blocked-absent (a .g) (a .executed .now) (a .v .0) (a .buffer .now) (told (c .before .before)) _ (c .before .wide .ensures) (c .if2 .taken)
+returns-2 c = let a = c .before .before .before .before .before .before .args in blocked-absent (a .g) (a .executed .now) (a .v .0) (a .buffer .now) (told (c .before .before)) (omega (arith, c .before .to-index .ensures, c .if2 .taken))
 
 ancestors-requires : tie.Need-ancestors-requires
 ancestors-requires c κs = (ends-back _ (sound-of (c .before .before .before .before .before .before)), node-low (c .before .before .before .before))
@@ -48,7 +51,7 @@ same-length c = search needs
 returns-3 : tie.Need-returns-3
 returns-3 c = let a = c .before .before .before .before .before .before .before .before .before .before .before .before .before .before .before .before .before .before .args in
     let s = c .before .before .before .before .before .before .before .before .before .before .before .before .before .before in
-    blocked-answers (a .g) (sound-of s) (told s) _ (a .v .0) (c .before .before .before .before .before .before .before .before .before .before .before .before .before .wide .ensures) (c .before .before .before .before .before .before .before .before .before .before .before .before .if2 .left) (a .buffer .now) _ (c .before .before .before .before .before .before .before .ancestors .result) (c .before .before .before .before .before .before .listed-with .result) (a .executed .now)
+    blocked-answers (a .g) (sound-of s) (told s) (a .v .0) (low (c .before .before .before .before .before .before .before .before .before .before .before .before)) (a .buffer .now) _ (c .before .before .before .before .before .before .before .ancestors .result) (c .before .before .before .before .before .before .listed-with .result) (a .executed .now)
     (c .before .before .before .before .before .before .before .ancestors .ensures) (c .before .before .before .before .before .before .listed-with .ensures) (c .before .before .answer-kept .ensures)
 
 pub execution-blocked-spec : {M : Type 1} → statement M
@@ -57,7 +60,7 @@ execution-blocked-spec =
     (tie.spec
     is-sound-requires
     returns
-    wide-requires
+    to-index-requires
     returns-2
     ancestors-requires
     listed-with-requires

@@ -10,7 +10,7 @@ use Rattle.queries.proofs.queries.index_in.Statement.{statement}
 use Rattle.queries.proofs.queries.index_in.Tie as tie
 
 abbrev Inv-loop : tie.InvT-loop
-Inv-loop list v i₀ i = (i ≤ length list) × ((j : ℕ) → j < i → eqb v (getD list j 0) ≡ false)
+Inv-loop list v i₀ i = (i ≤ length list) × ((j : ℕ) → j < i → eqb (v .0) (getD list j 0) ≡ false)
 
 abbrev μ-loop : tie.MeasureT-loop
 μ-loop list v i₀ i = length list - i
@@ -34,7 +34,7 @@ loop-less : tie.Need-loop-less Inv-loop μ-loop
 loop-less c = search needs
 
 loop-again : tie.Need-loop-again Inv-loop μ-loop
-loop-again c = (omega arith, not-yet _ _ (c .before .before .before .before .args .list .now) (c .before .before .before .loop .inv .1) (c .if1 .left))
+loop-again c = (omega arith, not-yet _ _ (c .before .before .before .before .before .args .list .now) (c .before .before .before .before .loop .inv .1) (c .if1 .left))
 
 returns-2 : tie.Need-returns-2 Inv-loop μ-loop
 returns-2 c = search needs

@@ -20,11 +20,11 @@ mul-t c = search needs
 element-copy-out-t : tie.Need-element-copy-out-t Inv-loop μ-loop
 element-copy-out-t c = search needs
 
-mul-rises : tie.Need-mul-rises Inv-loop μ-loop
-mul-rises c = search needs
+mul-t9 : tie.Need-mul-t9 Inv-loop μ-loop
+mul-t9 c = search needs
 
-element-copy-out-rises : tie.Need-element-copy-out-rises Inv-loop μ-loop
-element-copy-out-rises c = search needs
+element-copy-out-t12 : tie.Need-element-copy-out-t12 Inv-loop μ-loop
+element-copy-out-t12 c = search needs
 
 rises-requires : tie.Need-rises-requires Inv-loop μ-loop
 rises-requires c κs = search needs
@@ -50,8 +50,8 @@ is-ordered-spec =
     loop-holds
     mul-t
     element-copy-out-t
-    mul-rises
-    element-copy-out-rises
+    mul-t9
+    element-copy-out-t12
     rises-requires
     add-i
     loop-less

@@ -7,7 +7,7 @@ use Rattle.queries.proofs.queries.leads_above.Statement.{statement}
 use Rattle.queries.proofs.queries.leads_above.Tie as tie
 
 abbrev Inv-loop : tie.InvT-loop
-Inv-loop to m v low₀ high₀ low high = Halving to m v low high
+Inv-loop to m v low₀ high₀ low high = Halving to m (v .0) low high
 
 abbrev μ-loop : tie.MeasureT-loop
 μ-loop to m v low₀ high₀ low high = high - low
@@ -24,20 +24,17 @@ sub-mid c = search needs
 add-mid : tie.Need-add-mid Inv-loop μ-loop
 add-mid c = omega (arith, halfway c, c .before .loop .inv .leads .within, c .before .loop .inv .count)
 
-mul-wide : tie.Need-mul-wide Inv-loop μ-loop
-mul-wide c = omega (arith, halfway c, c .before .loop .inv .leads .within, c .before .loop .inv .count)
+mul-if1 : tie.Need-mul-if1 Inv-loop μ-loop
+mul-if1 c = omega (arith, halfway c, c .before .loop .inv .leads .within, c .before .loop .inv .count)
 
-element-copy-out-wide : tie.Need-element-copy-out-wide Inv-loop μ-loop
-element-copy-out-wide c = omega (arith, halfway c, c .before .loop .inv .leads .within, c .before .loop .inv .count)
-
-wide-requires : tie.Need-wide-requires Inv-loop μ-loop
-wide-requires c κs = search needs
+element-copy-out-if1 : tie.Need-element-copy-out-if1 Inv-loop μ-loop
+element-copy-out-if1 c = omega (arith, halfway c, c .before .loop .inv .leads .within, c .before .loop .inv .count)
 
 loop-less : tie.Need-loop-less Inv-loop μ-loop
 loop-less c = omega (arith, halfway (c .before .before .before))
 
 loop-again : tie.Need-loop-again Inv-loop μ-loop
-loop-again c = let d = c .before .before .before in halves-down _ _ _ _ _ _ (d .before .loop .inv) (omega arith) (halfway d) (omega (arith, c .if1 .taken, c .before .wide .ensures))
+loop-again c = let d = c .before .before .before in halves-down _ _ _ _ _ _ (d .before .loop .inv) (omega arith) (halfway d) (c .if1 .taken)
 
 add-low : tie.Need-add-low Inv-loop μ-loop
 add-low c = let d = c .before .before .before in omega (arith, halfway d, d .before .loop .inv .leads .within, d .before .loop .inv .count)
@@ -60,9 +57,8 @@ leads-above-spec =
     loop-holds
     sub-mid
     add-mid
-    mul-wide
-    element-copy-out-wide
-    wide-requires
+    mul-if1
+    element-copy-out-if1
     loop-less
     loop-again
     add-low

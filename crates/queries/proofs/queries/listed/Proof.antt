@@ -15,14 +15,14 @@ abbrev μ-loop : tie.MeasureT-loop
 loop-holds : tie.Need-loop-holds Inv-loop μ-loop
 loop-holds c = lists-none _
 
-mul-wide : tie.Need-mul-wide Inv-loop μ-loop
-mul-wide c = search needs
+mul-to-index : tie.Need-mul-to-index Inv-loop μ-loop
+mul-to-index c = search needs
 
-shared-slice-read-wide : tie.Need-shared-slice-read-wide Inv-loop μ-loop
-shared-slice-read-wide c = search needs
+shared-slice-read-to-index : tie.Need-shared-slice-read-to-index Inv-loop μ-loop
+shared-slice-read-to-index c = search needs
 
-wide-requires : tie.Need-wide-requires Inv-loop μ-loop
-wide-requires c κs = search needs
+to-index-requires : tie.Need-to-index-requires Inv-loop μ-loop
+to-index-requires c κs = search needs
 
 array-write-r : tie.Need-array-write-r Inv-loop μ-loop
 array-write-r c = search needs
@@ -36,8 +36,8 @@ loop-less c = search needs
 loop-again : tie.Need-loop-again Inv-loop μ-loop
 loop-again c = let d = c .before .before .before .before in
     ⊎-elim
-    (λ t. lists-one _ _ _ (d .loop .inv) (c .before .before .before .loop-test .taken) _ (c .before .wide .ensures) _ (t .0 .taken) (t .1))
-    (λ t. lists-other _ _ _ (d .loop .inv) (c .before .before .before .loop-test .taken) _ (c .before .wide .ensures) _ (t .0 .left) (t .1))
+    (λ t. lists-one _ _ _ (d .loop .inv) (c .before .before .before .loop-test .taken) _ (c .before .to-index .ensures) _ (t .0 .taken) (t .1))
+    (λ t. lists-other _ _ _ (d .loop .inv) (c .before .before .before .loop-test .taken) _ (c .before .to-index .ensures) _ (t .0 .left) (t .1))
     (c .if1 .came)
 
 returns : tie.Need-returns Inv-loop μ-loop
@@ -50,9 +50,9 @@ listed-spec =
     Inv-loop
     μ-loop
     loop-holds
-    mul-wide
-    shared-slice-read-wide
-    wide-requires
+    mul-to-index
+    shared-slice-read-to-index
+    to-index-requires
     array-write-r
     add-i
     loop-less

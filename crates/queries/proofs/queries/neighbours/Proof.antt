@@ -13,32 +13,32 @@ Inv-loop skip near far m r₀ i₀ r i = Meeting skip near far m r i
 abbrev μ-loop : tie.MeasureT-loop
 μ-loop skip near far m r₀ i₀ r i = m - i
 
-near-low : (c : tie.After-wide2 Inv-loop μ-loop) → c .before .before .wide .result < 512
-near-low c = omega (arith, c .before .before .before .before .before .loop .inv .ends .near-below (c .before .before .before .before .before .loop .i) (c .before .before .before .before .loop-test .taken), c .before .before .wide .ensures)
+near-low : (c : tie.After-to-index2 Inv-loop μ-loop) → c .before .before .to-index .result < 512
+near-low c = omega (arith, c .before .before .before .before .before .loop .inv .ends .near-below (c .before .before .before .before .before .loop .i) (c .before .before .before .before .loop-test .taken), c .before .before .to-index .ensures)
 
-far-low : (c : tie.After-wide2 Inv-loop μ-loop) → c .wide2 .result < 512
-far-low c = omega (arith, c .before .before .before .before .before .loop .inv .ends .far-below (c .before .before .before .before .before .loop .i) (c .before .before .before .before .loop-test .taken), c .wide2 .ensures)
+far-low : (c : tie.After-to-index2 Inv-loop μ-loop) → c .to-index2 .result < 512
+far-low c = omega (arith, c .before .before .before .before .before .loop .inv .ends .far-below (c .before .before .before .before .before .loop .i) (c .before .before .before .before .loop-test .taken), c .to-index2 .ensures)
 
 loop-holds : tie.Need-loop-holds Inv-loop μ-loop
 loop-holds c = meets-none _ _ _ _ (c .pre)
 
-mul-wide : tie.Need-mul-wide Inv-loop μ-loop
-mul-wide c = search needs
+mul-to-index : tie.Need-mul-to-index Inv-loop μ-loop
+mul-to-index c = search needs
 
-element-copy-out-wide : tie.Need-element-copy-out-wide Inv-loop μ-loop
-element-copy-out-wide c = search needs
+element-copy-out-to-index : tie.Need-element-copy-out-to-index Inv-loop μ-loop
+element-copy-out-to-index c = search needs
 
-wide-requires : tie.Need-wide-requires Inv-loop μ-loop
-wide-requires c κs = search needs
+to-index-requires : tie.Need-to-index-requires Inv-loop μ-loop
+to-index-requires c κs = search needs
 
-mul-wide-2 : tie.Need-mul-wide-2 Inv-loop μ-loop
-mul-wide-2 c = search needs
+mul-to-index-2 : tie.Need-mul-to-index-2 Inv-loop μ-loop
+mul-to-index-2 c = search needs
 
-element-copy-out-wide-2 : tie.Need-element-copy-out-wide-2 Inv-loop μ-loop
-element-copy-out-wide-2 c = search needs
+element-copy-out-to-index-2 : tie.Need-element-copy-out-to-index-2 Inv-loop μ-loop
+element-copy-out-to-index-2 c = search needs
 
-wide-requires-2 : tie.Need-wide-requires-2 Inv-loop μ-loop
-wide-requires-2 c κs = search needs
+to-index-requires-2 : tie.Need-to-index-requires-2 Inv-loop μ-loop
+to-index-requires-2 c κs = search needs
 
 array-read-r : tie.Need-array-read-r Inv-loop μ-loop
 array-read-r c = near-low c
@@ -56,7 +56,7 @@ loop-less : tie.Need-loop-less Inv-loop μ-loop
 loop-less c = search needs
 
 loop-again : tie.Need-loop-again Inv-loop μ-loop
-loop-again c = meets-one _ _ _ _ _ _ (c .before .before .before .before .before .before .loop .inv) (c .before .before .before .before .before .loop-test .taken) _ _ (c .before .before .before .wide .ensures) (c .before .wide2 .ensures)
+loop-again c = meets-one _ _ _ _ _ _ (c .before .before .before .before .before .before .loop .inv) (c .before .before .before .before .before .loop-test .taken) _ _ (c .before .before .before .to-index .ensures) (c .before .to-index2 .ensures)
 
 returns : tie.Need-returns Inv-loop μ-loop
 returns c = meets-all _ _ _ _ _ _ (c .before .loop .inv) (c .loop-test .left)
@@ -68,12 +68,12 @@ neighbours-spec =
     Inv-loop
     μ-loop
     loop-holds
-    mul-wide
-    element-copy-out-wide
-    wide-requires
-    mul-wide-2
-    element-copy-out-wide-2
-    wide-requires-2
+    mul-to-index
+    element-copy-out-to-index
+    to-index-requires
+    mul-to-index-2
+    element-copy-out-to-index-2
+    to-index-requires-2
     array-read-r
     element-copy-out-r
     array-write-r

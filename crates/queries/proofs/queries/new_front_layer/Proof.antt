@@ -22,11 +22,15 @@ told c = sym (c .before .is-sound .ensures) ∙ not-false _ (c .if1 .left)
 sound-of : (c : tie.Else1) → Sound (c .before .before .before .before .before .args .g)
 sound-of c = let g = c .before .before .before .before .before .args .g in sound-told g (dag-sized g _ (c .before .before .before .before .before .good .0) .commuting .list) (told c)
 
-node-low : (c : tie.Else2) → c .before .wide .result < 512
-node-low c = omega (arith, c .if2 .left, sound-of (c .before .before) .node-count)
+low : (c : tie.Else2) → c .before .before .before .before .before .before .before .args .v .0 < c .before .before .before .before .before .before .before .args .g .nodes .count
+low c = omega (arith, c .before .to-index .ensures, c .if2 .left)
+
+node-low : (c : tie.Else2) → c .before .before .before .before .before .before .before .args .v .0 < 512
+node-low c = omega (arith, low c, sound-of (c .before .before) .node-count)
 
 counted : (c : tie.After-count-kept) → c .count-kept .result ≡ length (kept (c .before .before .before .before .neighbours-of .result) noNode (c .before .before .before .before .before .before .before .before .before .before .before .before .before .before .before .before .before .before .args .g .nodes .count))
-counted c = c .count-kept .ensures ∙ ap (λ (s : List Bool). length (kept (c .before .before .before .before .neighbours-of .result) s (c .before .before .before .before .before .before .before .before .before .before .before .before .before .before .before .before .before .before .args .g .nodes .count))) (c .before .before .before .none .ensures)
+unfolding noNode
+counted c = c .count-kept .ensures ∙ ap (λ (s : List Bool). length (kept (c .before .before .before .before .neighbours-of .result) s (c .before .before .before .before .before .before .before .before .before .before .before .before .before .before .before .before .before .before .args .g .nodes .count))) (c .before .before .before .no-marks .ensures)
 
 is-sound-requires : tie.Need-is-sound-requires
 is-sound-requires c κs = search needs
@@ -34,24 +38,24 @@ is-sound-requires c κs = search needs
 returns : tie.Need-returns
 returns c = let a = c .before .before .before .before .before .args in layer-unsound (a .g) (a .executed .now) (a .v .0) (a .buffer .now) (a .layer .now) (sym (c .before .is-sound .ensures) ∙ not-true _ (c .if1 .taken))
 
-wide-requires : tie.Need-wide-requires
-wide-requires c κs = search needs
+to-index-requires : tie.Need-to-index-requires
+to-index-requires c κs = search needs
 
 returns-2 : tie.Need-returns-2
-returns-2 c = let a = c .before .before .before .before .before .before .before .args in layer-absent (a .g) (a .executed .now) (a .v .0) (a .buffer .now) (a .layer .now) (told (c .before .before)) _ (c .before .wide .ensures) (c .if2 .taken)
+returns-2 c = let a = c .before .before .before .before .before .before .before .args in layer-absent (a .g) (a .executed .now) (a .v .0) (a .buffer .now) (a .layer .now) (told (c .before .before)) (omega (arith, c .before .to-index .ensures, c .if2 .taken))
 
 index-in-requires : tie.Need-index-in-requires
 index-in-requires c κs = search needs
 
 returns-3 : tie.Need-returns-3
 returns-3 c = let a = c .before .before .before .before .before .before .before .before .before .args in
-    layer-without (a .g) (a .executed .now) (a .v .0) (a .buffer .now) (a .layer .now) (told (c .before .before .before .before)) _ (c .before .before .before .wide .ensures) (c .before .before .if2 .left) _ (c .before .index-in .ensures) (c .if3 .taken)
+    layer-without (a .g) (a .executed .now) (a .v .0) (a .buffer .now) (a .layer .now) (told (c .before .before .before .before)) (low (c .before .before)) _ (c .before .index-in .ensures) (c .if3 .taken)
 
 neighbours-of-requires : tie.Need-neighbours-of-requires
 neighbours-of-requires c κs = (node-low (c .before .before .before .before .before .before), ends-on _ (sound-of (c .before .before .before .before .before .before .before .before)))
 
-none-requires : tie.Need-none-requires
-none-requires c κs = search needs
+no-marks-requires : tie.Need-no-marks-requires
+no-marks-requires c κs = search needs
 
 count-kept-requires : tie.Need-count-kept-requires
 count-kept-requires c κs = sound-of (c .before .before .before .before .before .before .before .before .before .before .before .before) .node-count
@@ -63,12 +67,13 @@ same-length : tie.Need-same-length
 same-length c = search needs
 
 returns-4 : tie.Need-returns-4
+unfolding noNode
 returns-4 c = let a = c .before .before .before .before .before .before .before .before .before .before .before .before .before .before .before .before .before .before .before .before .before .before .before .before .before .args in
     let s = c .before .before .before .before .before .before .before .before .before .before .before .before .before .before .before .before .before .before .before .before in
     let n = c .before .before .before .before .before .before .before .before .before .before .before in
-    layer-alone (a .g) (sound-of s) (told s) _ (a .v .0) (c .before .before .before .before .before .before .before .before .before .before .before .before .before .before .before .before .before .before .before .wide .ensures) (c .before .before .before .before .before .before .before .before .before .before .before .before .before .before .before .before .before .before .if2 .left) (a .buffer .now) _ (n .neighbours-of .result) noNode (a .executed .now) (a .layer .now) (c .before .before .before .before .before .before .before .before .before .before .before .before .before .before .before .before .before .index-in .result) (n .neighbours-of .ensures) (c .before .before .before .before .before .before .before .before .before .before .before .before .before .before .before .before .before .index-in .ensures) (c .before .before .before .before .before .before .before .before .before .before .before .before .before .before .before .before .if3 .left)
+    layer-alone (a .g) (sound-of s) (told s) (a .v .0) (low (c .before .before .before .before .before .before .before .before .before .before .before .before .before .before .before .before .before .before)) (a .buffer .now) _ (n .neighbours-of .result) noNode (a .executed .now) (a .layer .now) (c .before .before .before .before .before .before .before .before .before .before .before .before .before .before .before .before .before .index-in .result) (n .neighbours-of .ensures) (c .before .before .before .before .before .before .before .before .before .before .before .before .before .before .before .before .before .index-in .ensures) (c .before .before .before .before .before .before .before .before .before .before .before .before .before .before .before .before .if3 .left)
     _ (counted (c .before .before .before .before .before .before .before)) (c .before .before .before .before .before .before .if4 .taken)
-    (c .before .before .answer-next .ensures ∙ ap (λ (x : List Bool). answers (without (c .before .before .before .before .before .before .before .before .before .before .before .before .before .before .before .before .before .index-in .result) (a .layer .now) ++ kept (n .neighbours-of .result) x (a .g .nodes .count)) (a .buffer .now)) (c .before .before .before .before .before .before .before .before .before .before .none .ensures))
+    (c .before .before .answer-next .ensures ∙ ap (λ (x : List Bool). answers (without (c .before .before .before .before .before .before .before .before .before .before .before .before .before .before .before .before .before .index-in .result) (a .layer .now) ++ kept (n .neighbours-of .result) x (a .g .nodes .count)) (a .buffer .now)) (c .before .before .before .before .before .before .before .before .before .before .no-marks .ensures))
 
 listed-with-requires : tie.Need-listed-with-requires
 listed-with-requires c κs = node-low (c .before .before .before .before .before .before .before .before .before .before .before .before)
@@ -86,7 +91,7 @@ returns-5 : tie.Need-returns-5
 returns-5 c = let a = c .before .before .before .before .before .before .before .before .before .before .before .before .before .before .before .before .before .before .before .before .before .before .before .before .before .before .before .before .before .before .args in
     let s = c .before .before .before .before .before .before .before .before .before .before .before .before .before .before .before .before .before .before .before .before .before .before .before .before .before in
     let n = c .before .before .before .before .before .before .before .before .before .before .before .before .before .before .before .before in
-    layer-answers (a .g) (sound-of s) (told s) _ (a .v .0) (c .before .before .before .before .before .before .before .before .before .before .before .before .before .before .before .before .before .before .before .before .before .before .before .before .wide .ensures) (c .before .before .before .before .before .before .before .before .before .before .before .before .before .before .before .before .before .before .before .before .before .before .before .if2 .left) (a .buffer .now) _ (n .neighbours-of .result) (c .before .before .before .before .before .before .before .before .before .before .listed-with .result) (a .executed .now) (a .layer .now) (c .before .before .before .before .before .before .before .before .before .before .before .before .before .before .before .before .before .before .before .before .before .before .index-in .result) (n .neighbours-of .ensures) (c .before .before .before .before .before .before .before .before .before .before .before .before .before .before .before .before .before .before .before .before .before .before .index-in .ensures) (c .before .before .before .before .before .before .before .before .before .before .before .before .before .before .before .before .before .before .before .before .before .if3 .left)
+    layer-answers (a .g) (sound-of s) (told s) (a .v .0) (low (c .before .before .before .before .before .before .before .before .before .before .before .before .before .before .before .before .before .before .before .before .before .before .before)) (a .buffer .now) _ (n .neighbours-of .result) (c .before .before .before .before .before .before .before .before .before .before .listed-with .result) (a .executed .now) (a .layer .now) (c .before .before .before .before .before .before .before .before .before .before .before .before .before .before .before .before .before .before .before .before .before .before .index-in .result) (n .neighbours-of .ensures) (c .before .before .before .before .before .before .before .before .before .before .before .before .before .before .before .before .before .before .before .before .before .before .index-in .ensures) (c .before .before .before .before .before .before .before .before .before .before .before .before .before .before .before .before .before .before .before .before .before .if3 .left)
     (c .before .before .before .before .before .before .waiting .result) _ (counted (c .before .before .before .before .before .before .before .before .before .before .before .before)) (c .before .before .before .before .before .before .before .before .before .before .before .if4 .left) (c .before .before .before .before .before .before .before .before .before .before .listed-with .ensures) (c .before .before .before .before .before .before .waiting .ensures) (c .before .before .answer-layer .ensures)
 
 pub new-front-layer-spec : {M : Type 1} → statement M
@@ -95,12 +100,12 @@ new-front-layer-spec =
     (tie.spec
     is-sound-requires
     returns
-    wide-requires
+    to-index-requires
     returns-2
     index-in-requires
     returns-3
     neighbours-of-requires
-    none-requires
+    no-marks-requires
     count-kept-requires
     answer-next-requires
     same-length

@@ -13,11 +13,11 @@ Inv-loop mark₀ near far k i₀ mark i = Settling near far k mark₀ mark i
 abbrev μ-loop : tie.MeasureT-loop
 μ-loop mark₀ near far k i₀ mark i = i
 
-near-low : (c : tie.After-wide2 Inv-loop μ-loop) → c .before .before .wide .result < 512
-near-low c = let d = c .before .before .before .before in omega (arith, d .before .loop .inv .ends .near-below (d .before .loop .i - 1) (omega (arith, d .loop-test .taken, d .before .loop .inv .low)), c .before .before .wide .ensures)
+near-low : (c : tie.After-to-index2 Inv-loop μ-loop) → c .before .before .to-index .result < 512
+near-low c = let d = c .before .before .before .before in omega (arith, d .before .loop .inv .ends .near-below (d .before .loop .i - 1) (omega (arith, d .loop-test .taken, d .before .loop .inv .low)), c .before .before .to-index .ensures)
 
-far-low : (c : tie.After-wide2 Inv-loop μ-loop) → c .wide2 .result < 512
-far-low c = let d = c .before .before .before .before in omega (arith, d .before .loop .inv .ends .far-below (d .before .loop .i - 1) (omega (arith, d .loop-test .taken, d .before .loop .inv .low)), c .wide2 .ensures)
+far-low : (c : tie.After-to-index2 Inv-loop μ-loop) → c .to-index2 .result < 512
+far-low c = let d = c .before .before .before .before in omega (arith, d .before .loop .inv .ends .far-below (d .before .loop .i - 1) (omega (arith, d .loop-test .taken, d .before .loop .inv .low)), c .to-index2 .ensures)
 
 loop-holds : tie.Need-loop-holds Inv-loop μ-loop
 loop-holds c = settles-none _ _ _ _ (c .pre .0) (c .pre .1) (c .pre .2)
@@ -25,23 +25,23 @@ loop-holds c = settles-none _ _ _ _ (c .pre .0) (c .pre .1) (c .pre .2)
 sub-i : tie.Need-sub-i Inv-loop μ-loop
 sub-i c = search needs
 
-mul-wide : tie.Need-mul-wide Inv-loop μ-loop
-mul-wide c = search needs
+mul-to-index : tie.Need-mul-to-index Inv-loop μ-loop
+mul-to-index c = search needs
 
-element-copy-out-wide : tie.Need-element-copy-out-wide Inv-loop μ-loop
-element-copy-out-wide c = search needs
+element-copy-out-to-index : tie.Need-element-copy-out-to-index Inv-loop μ-loop
+element-copy-out-to-index c = search needs
 
-wide-requires : tie.Need-wide-requires Inv-loop μ-loop
-wide-requires c κs = search needs
+to-index-requires : tie.Need-to-index-requires Inv-loop μ-loop
+to-index-requires c κs = search needs
 
-mul-wide-2 : tie.Need-mul-wide-2 Inv-loop μ-loop
-mul-wide-2 c = search needs
+mul-to-index-2 : tie.Need-mul-to-index-2 Inv-loop μ-loop
+mul-to-index-2 c = search needs
 
-element-copy-out-wide-2 : tie.Need-element-copy-out-wide-2 Inv-loop μ-loop
-element-copy-out-wide-2 c = search needs
+element-copy-out-to-index-2 : tie.Need-element-copy-out-to-index-2 Inv-loop μ-loop
+element-copy-out-to-index-2 c = search needs
 
-wide-requires-2 : tie.Need-wide-requires-2 Inv-loop μ-loop
-wide-requires-2 c κs = search needs
+to-index-requires-2 : tie.Need-to-index-requires-2 Inv-loop μ-loop
+to-index-requires-2 c κs = search needs
 
 element-copy-out-mark : tie.Need-element-copy-out-mark Inv-loop μ-loop
 element-copy-out-mark c = near-low c
@@ -57,7 +57,7 @@ loop-less c = search needs
 
 loop-again : tie.Need-loop-again Inv-loop μ-loop
 loop-again c = let d = c .before .before .before .before .before .before in
-    settles-one _ _ _ _ _ _ (d .before .loop .inv) (d .loop-test .taken) _ _ (c .before .before .before .before .wide .ensures) (c .before .before .wide2 .ensures)
+    settles-one _ _ _ _ _ _ (d .before .loop .inv) (d .loop-test .taken) _ _ (c .before .before .before .before .to-index .ensures) (c .before .before .to-index2 .ensures)
 
 returns : tie.Need-returns Inv-loop μ-loop
 returns c = let z : c .before .loop .i ≡ 0 = omega (arith, c .loop-test .left) in settles-all _ _ _ _ _ (rw z at (c .before .loop .inv))
@@ -70,12 +70,12 @@ settle-spec =
     μ-loop
     loop-holds
     sub-i
-    mul-wide
-    element-copy-out-wide
-    wide-requires
-    mul-wide-2
-    element-copy-out-wide-2
-    wide-requires-2
+    mul-to-index
+    element-copy-out-to-index
+    to-index-requires
+    mul-to-index-2
+    element-copy-out-to-index-2
+    to-index-requires-2
     element-copy-out-mark
     element-copy-out-mark-2
     element-write-mark

@@ -8,6 +8,7 @@ use Rattle.graph.proofs.SizeLaws.{dag-sized}
 use Rattle.graph.proofs.SoundnessLaws.{Sound, sound-told}
 use Rattle.queries.proofs.ReachLaws.{ends-on}
 use Rattle.queries.proofs.QueryLaws.{successors-unsound, successors-absent, successors-answers}
+use Rattle.queries.specs.Marks.{noNode}
 use borrow.Author.Needs.{needs}
 use Rattle.queries.proofs.queries.successors.Statement.{statement}
 use Rattle.queries.proofs.queries.successors.Tie as tie
@@ -18,8 +19,11 @@ told c = sym (c .before .is-sound .ensures) ∙ not-false _ (c .if1 .left)
 sound-of : (c : tie.Else1) → Sound (c .before .before .before .args .g)
 sound-of c = let g = c .before .before .before .args .g in sound-told g (dag-sized g _ (c .before .before .before .good .0) .commuting .list) (told c)
 
-node-low : (c : tie.Else2) → c .before .wide .result < 512
-node-low c = omega (arith, c .if2 .left, sound-of (c .before .before) .node-count)
+low : (c : tie.Else2) → c .before .before .before .before .before .args .v .0 < c .before .before .before .before .before .args .g .nodes .count
+low c = omega (arith, c .before .to-index .ensures, c .if2 .left)
+
+node-low : (c : tie.Else2) → c .before .before .before .before .before .args .v .0 < 512
+node-low c = omega (arith, low c, sound-of (c .before .before) .node-count)
 
 is-sound-requires : tie.Need-is-sound-requires
 is-sound-requires c κs = search needs
@@ -27,17 +31,17 @@ is-sound-requires c κs = search needs
 returns : tie.Need-returns
 returns c = let a = c .before .before .before .args in successors-unsound (a .g) (a .v .0) (a .buffer .now) (sym (c .before .is-sound .ensures) ∙ not-true _ (c .if1 .taken))
 
-wide-requires : tie.Need-wide-requires
-wide-requires c κs = search needs
+to-index-requires : tie.Need-to-index-requires
+to-index-requires c κs = search needs
 
 returns-2 : tie.Need-returns-2
-returns-2 c = let a = c .before .before .before .before .before .args in successors-absent (a .g) (a .v .0) (a .buffer .now) (told (c .before .before)) _ (c .before .wide .ensures) (c .if2 .taken)
+returns-2 c = let a = c .before .before .before .before .before .args in successors-absent (a .g) (a .v .0) (a .buffer .now) (told (c .before .before)) (omega (arith, c .before .to-index .ensures, c .if2 .taken))
 
 neighbours-of-requires : tie.Need-neighbours-of-requires
 neighbours-of-requires c κs = (node-low (c .before .before .before .before), ends-on _ (sound-of (c .before .before .before .before .before .before)))
 
-none-requires : tie.Need-none-requires
-none-requires c κs = search needs
+no-marks-requires : tie.Need-no-marks-requires
+no-marks-requires c κs = search needs
 
 answer-kept-requires : tie.Need-answer-kept-requires
 answer-kept-requires c κs = sound-of (c .before .before .before .before .before .before .before .before .before .before .before) .node-count
@@ -46,10 +50,11 @@ same-length : tie.Need-same-length
 same-length c = search needs
 
 returns-3 : tie.Need-returns-3
+unfolding noNode
 returns-3 c = let a = c .before .before .before .before .before .before .before .before .before .before .before .before .before .before .before .before .before .args in
     let s = c .before .before .before .before .before .before .before .before .before .before .before .before .before .before in
-    successors-answers (a .g) (sound-of s) (told s) _ (a .v .0) (c .before .before .before .before .before .before .before .before .before .before .before .before .before .wide .ensures) (c .before .before .before .before .before .before .before .before .before .before .before .before .if2 .left) (a .buffer .now) _ (c .before .before .before .before .before .before .before .neighbours-of .result) (c .before .before .before .before .before .before .none .result)
-    (c .before .before .before .before .before .before .before .neighbours-of .ensures) (c .before .before .before .before .before .before .none .ensures) (c .before .before .answer-kept .ensures)
+    successors-answers (a .g) (sound-of s) (told s) (a .v .0) (low (c .before .before .before .before .before .before .before .before .before .before .before .before)) (a .buffer .now) _ (c .before .before .before .before .before .before .before .neighbours-of .result) (c .before .before .before .before .before .before .no-marks .result)
+    (c .before .before .before .before .before .before .before .neighbours-of .ensures) (c .before .before .before .before .before .before .no-marks .ensures) (c .before .before .answer-kept .ensures)
 
 pub successors-spec : {M : Type 1} → statement M
 successors-spec =
@@ -57,10 +62,10 @@ successors-spec =
     (tie.spec
     is-sound-requires
     returns
-    wide-requires
+    to-index-requires
     returns-2
     neighbours-of-requires
-    none-requires
+    no-marks-requires
     answer-kept-requires
     same-length
     returns-3)

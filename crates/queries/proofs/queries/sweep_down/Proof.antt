@@ -13,11 +13,11 @@ Inv-loop mark₀ near far m moved₀ i₀ mark moved i = Sweeping near far m mar
 abbrev μ-loop : tie.MeasureT-loop
 μ-loop mark₀ near far m moved₀ i₀ mark moved i = i
 
-near-low : (c : tie.After-wide2 Inv-loop μ-loop) → c .before .before .wide .result < 512
-near-low c = omega (arith, c .before .before .before .before .before .loop .inv .ends .near-below (c .before .before .before .before .before .loop .i - 1) (omega (arith, c .before .before .before .before .loop-test .taken, c .before .before .before .before .before .loop .inv .top)), c .before .before .wide .ensures)
+near-low : (c : tie.After-to-index2 Inv-loop μ-loop) → c .before .before .to-index .result < 512
+near-low c = omega (arith, c .before .before .before .before .before .loop .inv .ends .near-below (c .before .before .before .before .before .loop .i - 1) (omega (arith, c .before .before .before .before .loop-test .taken, c .before .before .before .before .before .loop .inv .top)), c .before .before .to-index .ensures)
 
-far-low : (c : tie.After-wide2 Inv-loop μ-loop) → c .wide2 .result < 512
-far-low c = omega (arith, c .before .before .before .before .before .loop .inv .ends .far-below (c .before .before .before .before .before .loop .i - 1) (omega (arith, c .before .before .before .before .loop-test .taken, c .before .before .before .before .before .loop .inv .top)), c .wide2 .ensures)
+far-low : (c : tie.After-to-index2 Inv-loop μ-loop) → c .to-index2 .result < 512
+far-low c = omega (arith, c .before .before .before .before .before .loop .inv .ends .far-below (c .before .before .before .before .before .loop .i - 1) (omega (arith, c .before .before .before .before .loop-test .taken, c .before .before .before .before .before .loop .inv .top)), c .to-index2 .ensures)
 
 loop-holds : tie.Need-loop-holds Inv-loop μ-loop
 loop-holds c = sweeps-none _ _ _ _ (c .pre .0) (c .pre .1) _ (omega arith)
@@ -25,23 +25,23 @@ loop-holds c = sweeps-none _ _ _ _ (c .pre .0) (c .pre .1) _ (omega arith)
 sub-i : tie.Need-sub-i Inv-loop μ-loop
 sub-i c = search needs
 
-mul-wide : tie.Need-mul-wide Inv-loop μ-loop
-mul-wide c = search needs
+mul-to-index : tie.Need-mul-to-index Inv-loop μ-loop
+mul-to-index c = search needs
 
-element-copy-out-wide : tie.Need-element-copy-out-wide Inv-loop μ-loop
-element-copy-out-wide c = search needs
+element-copy-out-to-index : tie.Need-element-copy-out-to-index Inv-loop μ-loop
+element-copy-out-to-index c = search needs
 
-wide-requires : tie.Need-wide-requires Inv-loop μ-loop
-wide-requires c κs = search needs
+to-index-requires : tie.Need-to-index-requires Inv-loop μ-loop
+to-index-requires c κs = search needs
 
-mul-wide-2 : tie.Need-mul-wide-2 Inv-loop μ-loop
-mul-wide-2 c = search needs
+mul-to-index-2 : tie.Need-mul-to-index-2 Inv-loop μ-loop
+mul-to-index-2 c = search needs
 
-element-copy-out-wide-2 : tie.Need-element-copy-out-wide-2 Inv-loop μ-loop
-element-copy-out-wide-2 c = search needs
+element-copy-out-to-index-2 : tie.Need-element-copy-out-to-index-2 Inv-loop μ-loop
+element-copy-out-to-index-2 c = search needs
 
-wide-requires-2 : tie.Need-wide-requires-2 Inv-loop μ-loop
-wide-requires-2 c κs = search needs
+to-index-requires-2 : tie.Need-to-index-requires-2 Inv-loop μ-loop
+to-index-requires-2 c κs = search needs
 
 element-copy-out-old : tie.Need-element-copy-out-old Inv-loop μ-loop
 element-copy-out-old c = near-low c
@@ -58,7 +58,7 @@ loop-less c = search needs
 loop-again : tie.Need-loop-again Inv-loop μ-loop
 loop-again c = let d = c .before .before .before .before .before .before in
     sweeps-one _ _ _ _ _ _ _ _ (d .before .loop .inv) (d .before .loop .i - 1) _ _ (omega (arith, d .before .loop .inv .low, d .loop-test .taken)) (omega arith) (omega (arith, d .before .loop .inv .low))
-    (λ j x y. from-below j (d .before .loop .i) _ (d .loop-test .taken) x y) _ _ (c .before .before .before .before .wide .ensures) (c .before .before .wide2 .ensures)
+    (λ j x y. from-below j (d .before .loop .i) _ (d .loop-test .taken) x y) _ _ (c .before .before .before .before .to-index .ensures) (c .before .before .to-index2 .ensures)
 
 returns : tie.Need-returns Inv-loop μ-loop
 returns c = let z : c .before .loop .i ≡ 0 = omega (arith, c .loop-test .left) in
@@ -72,12 +72,12 @@ sweep-down-spec =
     μ-loop
     loop-holds
     sub-i
-    mul-wide
-    element-copy-out-wide
-    wide-requires
-    mul-wide-2
-    element-copy-out-wide-2
-    wide-requires-2
+    mul-to-index
+    element-copy-out-to-index
+    to-index-requires
+    mul-to-index-2
+    element-copy-out-to-index-2
+    to-index-requires-2
     element-copy-out-old
     element-copy-out-new
     element-write-mark

@@ -15,6 +15,12 @@ abbrev μ-loop : tie.MeasureT-loop
 loop-holds : tie.Need-loop-holds Inv-loop μ-loop
 loop-holds c = writes-none _ _ _ _ _ (c .before .pre .0) (c .before .pre .1)
 
+element-copy-out-is-kept : tie.Need-element-copy-out-is-kept Inv-loop μ-loop
+element-copy-out-is-kept c = search needs
+
+element-copy-out-is-kept-2 : tie.Need-element-copy-out-is-kept-2 Inv-loop μ-loop
+element-copy-out-is-kept-2 c = search needs
+
 is-kept-requires : tie.Need-is-kept-requires Inv-loop μ-loop
 is-kept-requires c κs = search needs
 
@@ -22,13 +28,13 @@ cast-buffer : tie.Need-cast-buffer Inv-loop μ-loop
 cast-buffer c = search needs
 
 mul-buffer : tie.Need-mul-buffer Inv-loop μ-loop
-mul-buffer c = omega (arith, writes-room _ _ _ _ _ _ _ _ (c .before .before .before .loop .inv) (c .before .before .loop-test .taken) _ (c .before .is-kept .ensures) (c .if1 .taken), writes-long _ _ _ _ _ _ _ _ (c .before .before .before .loop .inv), c .before .before .before .before .slice-known .given 0)
+mul-buffer c = omega (arith, writes-room _ _ _ _ _ _ _ _ (c .before .before .before .before .before .loop .inv) (c .before .before .before .before .loop-test .taken) _ (c .before .is-kept .ensures) (c .if1 .taken), writes-long _ _ _ _ _ _ _ _ (c .before .before .before .before .before .loop .inv), c .before .before .before .before .before .before .slice-known .given 0)
 
 slice-write-buffer : tie.Need-slice-write-buffer Inv-loop μ-loop
-slice-write-buffer c = writes-room _ _ _ _ _ _ _ _ (c .before .before .before .loop .inv) (c .before .before .loop-test .taken) _ (c .before .is-kept .ensures) (c .if1 .taken)
+slice-write-buffer c = writes-room _ _ _ _ _ _ _ _ (c .before .before .before .before .before .loop .inv) (c .before .before .before .before .loop-test .taken) _ (c .before .is-kept .ensures) (c .if1 .taken)
 
 add-k : tie.Need-add-k Inv-loop μ-loop
-add-k c = omega (arith, writes-room _ _ _ _ _ _ _ _ (c .before .before .before .loop .inv) (c .before .before .loop-test .taken) _ (c .before .is-kept .ensures) (c .if1 .taken), writes-long _ _ _ _ _ _ _ _ (c .before .before .before .loop .inv))
+add-k c = omega (arith, writes-room _ _ _ _ _ _ _ _ (c .before .before .before .before .before .loop .inv) (c .before .before .before .before .loop-test .taken) _ (c .before .is-kept .ensures) (c .if1 .taken), writes-long _ _ _ _ _ _ _ _ (c .before .before .before .before .before .loop .inv))
 
 add-u : tie.Need-add-u Inv-loop μ-loop
 add-u c = search needs
@@ -37,10 +43,10 @@ loop-less : tie.Need-loop-less Inv-loop μ-loop
 loop-less c = search needs
 
 loop-again : tie.Need-loop-again Inv-loop μ-loop
-loop-again c = let d = c .before .before .before in
+loop-again c = let d = c .before .before .before .before .before in
     ⊎-elim
-    (λ t. writes-one _ _ _ _ _ _ _ _ (d .loop .inv) (c .before .before .loop-test .taken) _ (c .before .is-kept .ensures) (t .0 .taken) _ _ (t .1) (t .2))
-    (λ t. writes-not _ _ _ _ _ _ _ _ (d .loop .inv) (c .before .before .loop-test .taken) _ (c .before .is-kept .ensures) (t .0 .left) _ _ (t .1) (t .2))
+    (λ t. writes-one _ _ _ _ _ _ _ _ (d .loop .inv) (c .before .before .before .before .loop-test .taken) _ (c .before .is-kept .ensures) (t .0 .taken) _ _ (t .1) (t .2))
+    (λ t. writes-not _ _ _ _ _ _ _ _ (d .loop .inv) (c .before .before .before .before .loop-test .taken) _ (c .before .is-kept .ensures) (t .0 .left) _ _ (t .1) (t .2))
     (c .if1 .came)
 
 same-length : tie.Need-same-length Inv-loop μ-loop
@@ -56,6 +62,8 @@ write-kept-spec =
     Inv-loop
     μ-loop
     loop-holds
+    element-copy-out-is-kept
+    element-copy-out-is-kept-2
     is-kept-requires
     cast-buffer
     mul-buffer

@@ -19,8 +19,8 @@ loop-holds c = (c .pre .1, append-begin _ _ _ _ _ (c .pre .0) (c .pre .2))
 add-j : tie.Need-add-j Inv-loop μ-loop
 add-j c = search needs
 
-widened-requires : tie.Need-widened-requires Inv-loop μ-loop
-widened-requires c κs = search needs
+to-index-requires : tie.Need-to-index-requires Inv-loop μ-loop
+to-index-requires c κs = search needs
 
 element-copy-out-known : tie.Need-element-copy-out-known Inv-loop μ-loop
 element-copy-out-known c = search needs
@@ -29,7 +29,7 @@ returns : tie.Need-returns Inv-loop μ-loop
 returns c =
     let w = c .before .before .before in
     let l = w .before .before in
-    append-over _ _ _ _ _ _ _ (l .loop .inv .1) (w .before .loop-test .taken) (unmarked (l .before .args .there .now) _ _ (w .widened .ensures) (c .before .if1 .taken)) _ (c .if2 .taken) refl
+    append-over _ _ _ _ _ _ _ (l .loop .inv .1) (w .before .loop-test .taken) (unmarked (l .before .args .there .now) _ _ (w .to-index .ensures) (c .before .if1 .taken)) _ (c .if2 .taken) refl
 
 append-key-requires : tie.Need-append-key-requires Inv-loop μ-loop
 append-key-requires c κs = (c .before .before .before .before .if2 .left, c .before .before .before .before .before .before .before .before .before .loop .inv .1 .grown .fits .sized)
@@ -43,7 +43,7 @@ loop-again c =
     let w = e .before .before .before in
     let l = w .before .before in (
       l .loop .inv .0,
-      append-new _ _ _ _ _ _ _ (l .loop .inv .1) (w .before .loop-test .taken) (unmarked (l .before .args .there .now) _ _ (w .widened .ensures) (e .before .if1 .taken)) _ (e .if2 .left)
+      append-new _ _ _ _ _ _ _ (l .loop .inv .1) (w .before .loop-test .taken) (unmarked (l .before .args .there .now) _ _ (w .to-index .ensures) (e .before .if1 .taken)) _ (e .if2 .left)
           (c .append-key .ensures),
     )
 
@@ -54,7 +54,7 @@ loop-again-2 : tie.Need-loop-again-2 Inv-loop μ-loop
 loop-again-2 c =
     let w = c .before .before in
     let l = w .before .before in
-    (l .loop .inv .0, append-known _ _ _ _ _ _ _ (l .loop .inv .1) (w .before .loop-test .taken) (marked (l .before .args .there .now) _ _ (w .widened .ensures) (c .if1 .left)))
+    (l .loop .inv .0, append-known _ _ _ _ _ _ _ (l .loop .inv .1) (w .before .loop-test .taken) (marked (l .before .args .there .now) _ _ (w .to-index .ensures) (c .if1 .left)))
 
 returns-2 : tie.Need-returns-2 Inv-loop μ-loop
 returns-2 c = append-done _ _ _ _ _ _ _ (c .before .loop .inv .1) (c .loop-test .left)
@@ -67,7 +67,7 @@ append-keys-spec =
     μ-loop
     loop-holds
     add-j
-    widened-requires
+    to-index-requires
     element-copy-out-known
     returns
     append-key-requires

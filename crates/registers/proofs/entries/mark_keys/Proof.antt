@@ -35,8 +35,8 @@ mul-node c = search needs
 element-write-node : tie.Need-element-write-node Inv-loop μ-loop
 element-write-node c = search needs
 
-widened-requires : tie.Need-widened-requires Inv-loop μ-loop
-widened-requires c κs = search needs
+to-index-requires : tie.Need-to-index-requires Inv-loop μ-loop
+to-index-requires c κs = search needs
 
 array-write-there : tie.Need-array-write-there Inv-loop μ-loop
 array-write-there c = search needs
@@ -48,7 +48,7 @@ loop-again : tie.Need-loop-again Inv-loop μ-loop
 loop-again c =
     let t = c .before .before .before in
     let l = t .before .before .before in
-    mark-set _ _ _ _ _ _ _ (l .loop .inv) (t .before .before .loop-test .taken) _ (t .if1 .taken) (sym (c .widened .ensures)) (omega (arith, c .widened .ensures, c .before .if2 .taken))
+    mark-set _ _ _ _ _ _ _ (l .loop .inv) (t .before .before .loop-test .taken) _ (t .if1 .taken) (sym (c .to-index .ensures)) (omega (arith, c .to-index .ensures, c .before .if2 .taken))
 
 loop-less-2 : tie.Need-loop-less-2 Inv-loop μ-loop
 loop-less-2 c = search needs
@@ -83,7 +83,7 @@ mark-keys-spec =
     element-copy-out-i
     mul-node
     element-write-node
-    widened-requires
+    to-index-requires
     array-write-there
     loop-less
     loop-again

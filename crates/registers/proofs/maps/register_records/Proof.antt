@@ -26,14 +26,14 @@ no-maps-requires c κs = tt
 returns : tie.Need-returns Inv-loop μ-loop
 returns c = c .no-maps .ensures ∙ over _ _ _ _ _ (c .before .before .before .loop .inv) (c .before .before .loop-test .taken) (c .before .if1 .taken)
 
-mul-widened : tie.Need-mul-widened Inv-loop μ-loop
-mul-widened c = search needs
+mul-to-index : tie.Need-mul-to-index Inv-loop μ-loop
+mul-to-index c = search needs
 
-shared-slice-read-widened : tie.Need-shared-slice-read-widened Inv-loop μ-loop
-shared-slice-read-widened c = search needs
+shared-slice-read-to-index : tie.Need-shared-slice-read-to-index Inv-loop μ-loop
+shared-slice-read-to-index c = search needs
 
-widened-requires : tie.Need-widened-requires Inv-loop μ-loop
-widened-requires c κs = tt
+to-index-requires : tie.Need-to-index-requires Inv-loop μ-loop
+to-index-requires c κs = tt
 
 part-of-requires : tie.Need-part-of-requires Inv-loop μ-loop
 part-of-requires c κs = tt
@@ -54,7 +54,7 @@ loop-less : tie.Need-loop-less Inv-loop μ-loop
 loop-less c = omega (arith, c .before .before .before .before .before .before .before .loop-test .taken)
 
 loop-again : tie.Need-loop-again Inv-loop μ-loop
-loop-again c = skip _ _ _ _ _ (c .before .before .before .before .before .before .before .before .loop .inv) (c .before .before .before .before .before .before .before .loop-test .taken) (c .before .before .before .before .before .before .if1 .left) _ (c .before .before .before .before .widened .ensures) _ (c .before .before .before .part-of .ensures) _ (c .before .before .involved-classical .ensures) (c .enum-told .given .1)
+loop-again c = skip _ _ _ _ _ (c .before .before .before .before .before .before .before .before .loop .inv) (c .before .before .before .before .before .before .before .loop-test .taken) (c .before .before .before .before .before .before .if1 .left) _ (c .before .before .before .before .to-index .ensures) _ (c .before .before .before .part-of .ensures .bytes) _ (c .before .before .involved-classical .ensures) (c .enum-told .given .1)
 
 is-front-requires : tie.Need-is-front-requires Inv-loop μ-loop
 is-front-requires c κs = tt
@@ -69,13 +69,13 @@ no-maps-requires-2 : tie.Need-no-maps-requires-2 Inv-loop μ-loop
 no-maps-requires-2 c κs = tt
 
 returns-2 : tie.Need-returns-2 Inv-loop μ-loop
-returns-2 c = c .no-maps2 .ensures ∙ refused _ _ _ _ _ (c .before .before .before .before .before .before .before .before .before .before .before .before .before .before .before .before .before .before .before .before .loop .inv) (c .before .before .before .before .before .before .before .before .before .before .before .before .before .before .before .before .before .before .before .loop-test .taken) (c .before .before .before .before .before .before .before .before .before .before .before .before .before .before .before .before .before .before .if1 .left) _ (c .before .before .before .before .before .before .before .before .before .before .before .before .before .before .before .before .widened .ensures) _ (c .before .before .before .before .before .before .before .before .before .before .before .before .before .before .before .part-of .ensures) _ _ (by-record _ _ _ _ _ _ _ _ (c .before .before .before .before .before .before .before .before .before .before .before .before .is-front .ensures) (c .before .before .before .before .before .before .before .before .before .before .before .before .before .before .involved-classical .ensures) (c .before .before .before .enter-record .ensures)) (sym (c .before .before .maps-pass .ensures) ∙ c .before .if2 .taken)
+returns-2 c = c .no-maps2 .ensures ∙ refused _ _ _ _ _ (c .before .before .before .before .before .before .before .before .before .before .before .before .before .before .before .before .before .before .before .before .loop .inv) (c .before .before .before .before .before .before .before .before .before .before .before .before .before .before .before .before .before .before .before .loop-test .taken) (c .before .before .before .before .before .before .before .before .before .before .before .before .before .before .before .before .before .before .if1 .left) _ (c .before .before .before .before .before .before .before .before .before .before .before .before .before .before .before .before .to-index .ensures) _ (c .before .before .before .before .before .before .before .before .before .before .before .before .before .before .before .part-of .ensures .bytes) _ _ (by-record _ _ _ _ _ _ _ _ (c .before .before .before .before .before .before .before .before .before .before .before .before .is-front .ensures) (c .before .before .before .before .before .before .before .before .before .before .before .before .before .before .involved-classical .ensures) (c .before .before .before .enter-record .ensures)) (sym (c .before .before .maps-pass .ensures) ∙ c .before .if2 .taken)
 
 loop-less-2 : tie.Need-loop-less-2 Inv-loop μ-loop
 loop-less-2 c = omega (arith, c .before .before .before .before .before .before .before .before .before .before .before .before .before .before .before .before .before .before .loop-test .taken)
 
 loop-again-2 : tie.Need-loop-again-2 Inv-loop μ-loop
-loop-again-2 c = again _ _ _ _ _ (c .before .before .before .before .before .before .before .before .before .before .before .before .before .before .before .before .before .before .before .loop .inv) (c .before .before .before .before .before .before .before .before .before .before .before .before .before .before .before .before .before .before .loop-test .taken) (c .before .before .before .before .before .before .before .before .before .before .before .before .before .before .before .before .before .if1 .left) _ (c .before .before .before .before .before .before .before .before .before .before .before .before .before .before .before .widened .ensures) _ (c .before .before .before .before .before .before .before .before .before .before .before .before .before .before .part-of .ensures) _ _ (by-record _ _ _ _ _ _ _ _ (c .before .before .before .before .before .before .before .before .before .before .before .is-front .ensures) (c .before .before .before .before .before .before .before .before .before .before .before .before .before .involved-classical .ensures) (c .before .before .enter-record .ensures)) (sym (c .before .maps-pass .ensures) ∙ c .if2 .left)
+loop-again-2 c = again _ _ _ _ _ (c .before .before .before .before .before .before .before .before .before .before .before .before .before .before .before .before .before .before .before .loop .inv) (c .before .before .before .before .before .before .before .before .before .before .before .before .before .before .before .before .before .before .loop-test .taken) (c .before .before .before .before .before .before .before .before .before .before .before .before .before .before .before .before .before .if1 .left) _ (c .before .before .before .before .before .before .before .before .before .before .before .before .before .before .before .to-index .ensures) _ (c .before .before .before .before .before .before .before .before .before .before .before .before .before .before .part-of .ensures .bytes) _ _ (by-record _ _ _ _ _ _ _ _ (c .before .before .before .before .before .before .before .before .before .before .before .is-front .ensures) (c .before .before .before .before .before .before .before .before .before .before .before .before .before .involved-classical .ensures) (c .before .before .enter-record .ensures)) (sym (c .before .maps-pass .ensures) ∙ c .if2 .left)
 
 returns-3 : tie.Need-returns-3 Inv-loop μ-loop
 returns-3 c = finish _ _ _ _ _ (c .before .loop .inv) (c .loop-test .left)
@@ -89,9 +89,9 @@ register-records-spec =
     loop-holds
     no-maps-requires
     returns
-    mul-widened
-    shared-slice-read-widened
-    widened-requires
+    mul-to-index
+    shared-slice-read-to-index
+    to-index-requires
     part-of-requires
     involved-classical-requires
     cast-t23

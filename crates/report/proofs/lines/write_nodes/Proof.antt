@@ -19,6 +19,9 @@ mul-write-node c = record { fits = omega (arith, c .loop-test .taken, c .before 
 shared-slice-read-write-node : tie.Need-shared-slice-read-write-node Inv-loop μ-loop
 shared-slice-read-write-node c = omega (arith, c .before .loop-test .taken, c .before .before .before .before .before .pre .0)
 
+cast-t12 : tie.Need-cast-t12 Inv-loop μ-loop
+cast-t12 c = omega (arith, c .before .loop-test .taken, c .before .before .before .before .before .pre .1 .0)
+
 write-node-requires : tie.Need-write-node-requires Inv-loop μ-loop
 write-node-requires c κs = (omega (arith, c .before .before .loop-test .taken, c .before .before .before .before .before .before .pre .1 .0), (lists-room _ _ _ _ _ (c .before .before .before .before .before .before .pre .0) _ _ _ (c .before .before .before .loop .inv) (c .before .before .loop-test .taken), omega (arith, c .before .before .before .loop .inv .long, c .before .before .before .before .before .before .pre .1 .1 .0)))
 
@@ -46,6 +49,7 @@ write-nodes-spec =
     loop-holds
     mul-write-node
     shared-slice-read-write-node
+    cast-t12
     write-node-requires
     add-v
     loop-less

@@ -13,20 +13,20 @@ abbrev μ-loop : tie.MeasureT-loop
 μ-loop to m num₀ i₀ num i = m - i
 
 -- the target is a place of the array
-low : (c : tie.After-wide Inv-loop μ-loop) → c .wide .result < 512
-low c = rw (c .wide .ensures) (c .before .before .before .loop .inv .targets _ (c .before .before .loop-test .taken))
+low : (c : tie.After-to-index Inv-loop μ-loop) → c .to-index .result < 512
+low c = rw (c .to-index .ensures) (c .before .before .before .loop .inv .targets _ (c .before .before .loop-test .taken))
 
 loop-holds : tie.Need-loop-holds Inv-loop μ-loop
 loop-holds c = zero-begin _ _ _ (c .pre .0) (c .pre .1) (c .pre .2)
 
-mul-wide : tie.Need-mul-wide Inv-loop μ-loop
-mul-wide c = search needs
+mul-to-index : tie.Need-mul-to-index Inv-loop μ-loop
+mul-to-index c = search needs
 
-element-copy-out-wide : tie.Need-element-copy-out-wide Inv-loop μ-loop
-element-copy-out-wide c = search needs
+element-copy-out-to-index : tie.Need-element-copy-out-to-index Inv-loop μ-loop
+element-copy-out-to-index c = search needs
 
-wide-requires : tie.Need-wide-requires Inv-loop μ-loop
-wide-requires c κs = search needs
+to-index-requires : tie.Need-to-index-requires Inv-loop μ-loop
+to-index-requires c κs = search needs
 
 mul-num : tie.Need-mul-num Inv-loop μ-loop
 mul-num c = omega (arith, low c)
@@ -41,7 +41,7 @@ loop-less : tie.Need-loop-less Inv-loop μ-loop
 loop-less c = search needs
 
 loop-again : tie.Need-loop-again Inv-loop μ-loop
-loop-again c = zero-more _ _ _ (c .before .before .before .loop .inv) _ (c .before .before .loop-test .taken) (c .wide .ensures)
+loop-again c = zero-more _ _ _ (c .before .before .before .loop .inv) _ (c .before .before .loop-test .taken) (c .to-index .ensures)
 
 returns : tie.Need-returns Inv-loop μ-loop
 returns c = zero-done _ _ _ (c .before .loop .inv) (c .loop-test .left)
@@ -53,9 +53,9 @@ number-targets-spec =
     Inv-loop
     μ-loop
     loop-holds
-    mul-wide
-    element-copy-out-wide
-    wide-requires
+    mul-to-index
+    element-copy-out-to-index
+    to-index-requires
     mul-num
     element-write-num
     add-i

@@ -16,11 +16,11 @@ abbrev μ-loop : tie.MeasureT-loop
 low : (c : tie.After-edge-in-turn Inv-loop μ-loop) → c .edge-in-turn .result < c .before .before .before .args .m
 low c = edge-low _ _ _ _ _ (c .before .before .loop .inv) (c .before .loop-test .taken) _ (c .edge-in-turn .ensures)
 
-low-from : (c : tie.After-wide Inv-loop μ-loop) → c .wide .result < 512
-low-from c = let e = c .before .before in rw (c .wide .ensures) (e .before .before .loop .inv .joined .from-low _ (low e))
+low-from : (c : tie.After-to-index Inv-loop μ-loop) → c .to-index .result < 512
+low-from c = let e = c .before .before in rw (c .to-index .ensures) (e .before .before .loop .inv .joined .from-low _ (low e))
 
-low-to : (c : tie.After-wide2 Inv-loop μ-loop) → c .wide2 .result < 512
-low-to c = let e = c .before .before .before .before in rw (c .wide2 .ensures) (e .before .before .loop .inv .joined .to-low _ (low e))
+low-to : (c : tie.After-to-index2 Inv-loop μ-loop) → c .to-index2 .result < 512
+low-to c = let e = c .before .before .before .before in rw (c .to-index2 .ensures) (e .before .before .loop .inv .joined .to-low _ (low e))
 
 loop-holds : tie.Need-loop-holds Inv-loop μ-loop
 loop-holds c = sweep-begin _ _ _ _ _ (c .pre .0) (c .pre .1)
@@ -28,23 +28,23 @@ loop-holds c = sweep-begin _ _ _ _ _ (c .pre .0) (c .pre .1)
 edge-in-turn-requires : tie.Need-edge-in-turn-requires Inv-loop μ-loop
 edge-in-turn-requires c κs = search needs
 
-mul-wide : tie.Need-mul-wide Inv-loop μ-loop
-mul-wide c = omega (arith, low c, c .before .before .loop .inv .joined .room)
+mul-to-index : tie.Need-mul-to-index Inv-loop μ-loop
+mul-to-index c = omega (arith, low c, c .before .before .loop .inv .joined .room)
 
-element-copy-out-wide : tie.Need-element-copy-out-wide Inv-loop μ-loop
-element-copy-out-wide c = omega (arith, low c, c .before .before .loop .inv .joined .room)
+element-copy-out-to-index : tie.Need-element-copy-out-to-index Inv-loop μ-loop
+element-copy-out-to-index c = omega (arith, low c, c .before .before .loop .inv .joined .room)
 
-wide-requires : tie.Need-wide-requires Inv-loop μ-loop
-wide-requires c κs = search needs
+to-index-requires : tie.Need-to-index-requires Inv-loop μ-loop
+to-index-requires c κs = search needs
 
-mul-wide-2 : tie.Need-mul-wide-2 Inv-loop μ-loop
-mul-wide-2 c = let e = c .before .before in omega (arith, low e, e .before .before .loop .inv .joined .room)
+mul-to-index-2 : tie.Need-mul-to-index-2 Inv-loop μ-loop
+mul-to-index-2 c = let e = c .before .before in omega (arith, low e, e .before .before .loop .inv .joined .room)
 
-element-copy-out-wide-2 : tie.Need-element-copy-out-wide-2 Inv-loop μ-loop
-element-copy-out-wide-2 c = let e = c .before .before in omega (arith, low e, e .before .before .loop .inv .joined .room)
+element-copy-out-to-index-2 : tie.Need-element-copy-out-to-index-2 Inv-loop μ-loop
+element-copy-out-to-index-2 c = let e = c .before .before in omega (arith, low e, e .before .before .loop .inv .joined .room)
 
-wide-requires-2 : tie.Need-wide-requires-2 Inv-loop μ-loop
-wide-requires-2 c κs = search needs
+to-index-requires-2 : tie.Need-to-index-requires-2 Inv-loop μ-loop
+to-index-requires-2 c κs = search needs
 
 mul-old : tie.Need-mul-old Inv-loop μ-loop
 mul-old c = omega (arith, low-to c)
@@ -77,7 +77,7 @@ loop-less : tie.Need-loop-less Inv-loop μ-loop
 loop-less c = search needs
 
 loop-again : tie.Need-loop-again Inv-loop μ-loop
-loop-again c = let e = c .before .before .before .before .before .before .before .before in sweep-more _ _ _ _ _ (e .before .before .loop .inv) (e .before .loop-test .taken) _ (e .edge-in-turn .ensures) _ _ _ _ (c .before .before .before .before .before .before .wide .ensures) (c .before .before .before .before .wide2 .ensures) (c .before .raised .ensures) (c .has-changed .ensures)
+loop-again c = let e = c .before .before .before .before .before .before .before .before in sweep-more _ _ _ _ _ (e .before .before .loop .inv) (e .before .loop-test .taken) _ (e .edge-in-turn .ensures) _ _ _ _ (c .before .before .before .before .before .before .to-index .ensures) (c .before .before .before .before .to-index2 .ensures) (c .before .raised .ensures) (c .has-changed .ensures)
 
 returns : tie.Need-returns Inv-loop μ-loop
 returns c = sweep-done _ _ _ _ _ (c .before .loop .inv) (c .loop-test .left)
@@ -90,12 +90,12 @@ sweep-spec =
     μ-loop
     loop-holds
     edge-in-turn-requires
-    mul-wide
-    element-copy-out-wide
-    wide-requires
-    mul-wide-2
-    element-copy-out-wide-2
-    wide-requires-2
+    mul-to-index
+    element-copy-out-to-index
+    to-index-requires
+    mul-to-index-2
+    element-copy-out-to-index-2
+    to-index-requires-2
     mul-old
     element-copy-out-old
     mul-raised

@@ -13,32 +13,32 @@ abbrev μ-loop : tie.MeasureT-loop
 μ-loop from to m num found₀ i₀ found i = m - i
 
 -- the edge's ends are places of the array
-low-from : (c : tie.After-wide Inv-loop μ-loop) → c .wide .result < 512
-low-from c = rw (c .wide .ensures) (c .before .before .before .loop .inv .joins .from-low _ (c .before .before .loop-test .taken))
+low-from : (c : tie.After-to-index Inv-loop μ-loop) → c .to-index .result < 512
+low-from c = rw (c .to-index .ensures) (c .before .before .before .loop .inv .joins .from-low _ (c .before .before .loop-test .taken))
 
-low-to : (c : tie.After-wide2 Inv-loop μ-loop) → c .wide2 .result < 512
-low-to c = rw (c .wide2 .ensures) (c .before .before .before .before .before .loop .inv .joins .to-low _ (c .before .before .before .before .loop-test .taken))
+low-to : (c : tie.After-to-index2 Inv-loop μ-loop) → c .to-index2 .result < 512
+low-to c = rw (c .to-index2 .ensures) (c .before .before .before .before .before .loop .inv .joins .to-low _ (c .before .before .before .before .loop-test .taken))
 
 loop-holds : tie.Need-loop-holds Inv-loop μ-loop
 loop-holds c = taking-begin _ _ _ _ _ (c .pre .0) (c .pre .1)
 
-mul-wide : tie.Need-mul-wide Inv-loop μ-loop
-mul-wide c = search needs
+mul-to-index : tie.Need-mul-to-index Inv-loop μ-loop
+mul-to-index c = search needs
 
-element-copy-out-wide : tie.Need-element-copy-out-wide Inv-loop μ-loop
-element-copy-out-wide c = search needs
+element-copy-out-to-index : tie.Need-element-copy-out-to-index Inv-loop μ-loop
+element-copy-out-to-index c = search needs
 
-wide-requires : tie.Need-wide-requires Inv-loop μ-loop
-wide-requires c κs = search needs
+to-index-requires : tie.Need-to-index-requires Inv-loop μ-loop
+to-index-requires c κs = search needs
 
-mul-wide-2 : tie.Need-mul-wide-2 Inv-loop μ-loop
-mul-wide-2 c = search needs
+mul-to-index-2 : tie.Need-mul-to-index-2 Inv-loop μ-loop
+mul-to-index-2 c = search needs
 
-element-copy-out-wide-2 : tie.Need-element-copy-out-wide-2 Inv-loop μ-loop
-element-copy-out-wide-2 c = search needs
+element-copy-out-to-index-2 : tie.Need-element-copy-out-to-index-2 Inv-loop μ-loop
+element-copy-out-to-index-2 c = search needs
 
-wide-requires-2 : tie.Need-wide-requires-2 Inv-loop μ-loop
-wide-requires-2 c κs = search needs
+to-index-requires-2 : tie.Need-to-index-requires-2 Inv-loop μ-loop
+to-index-requires-2 c κs = search needs
 
 element-copy-out-is-free : tie.Need-element-copy-out-is-free Inv-loop μ-loop
 element-copy-out-is-free c = low-to c
@@ -62,7 +62,7 @@ loop-less : tie.Need-loop-less Inv-loop μ-loop
 loop-less c = search needs
 
 loop-again : tie.Need-loop-again Inv-loop μ-loop
-loop-again c = taking-more _ _ _ _ _ (c .before .before .before .before .before .before .before .before .loop .inv) (c .before .before .before .before .before .before .before .loop-test .taken) _ _ _ (c .before .before .before .before .before .wide .ensures) (c .before .before .before .wide2 .ensures) (c .is-free .ensures)
+loop-again c = taking-more _ _ _ _ _ (c .before .before .before .before .before .before .before .before .loop .inv) (c .before .before .before .before .before .before .before .loop-test .taken) _ _ _ (c .before .before .before .before .before .to-index .ensures) (c .before .before .before .to-index2 .ensures) (c .is-free .ensures)
 
 returns : tie.Need-returns Inv-loop μ-loop
 returns c = taking-done _ _ _ _ _ (c .before .loop .inv) (c .loop-test .left)
@@ -74,12 +74,12 @@ take-waiting-spec =
     Inv-loop
     μ-loop
     loop-holds
-    mul-wide
-    element-copy-out-wide
-    wide-requires
-    mul-wide-2
-    element-copy-out-wide-2
-    wide-requires-2
+    mul-to-index
+    element-copy-out-to-index
+    to-index-requires
+    mul-to-index-2
+    element-copy-out-to-index-2
+    to-index-requires-2
     element-copy-out-is-free
     mul-is-free
     element-copy-out-is-free-2

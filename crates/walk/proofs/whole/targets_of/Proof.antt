@@ -12,11 +12,11 @@ abbrev μ-loop : tie.MeasureT-loop
 μ-loop from to m chosen found₀ i₀ found i = m - i
 
 -- the edge's ends are places of the array
-low-from : (c : tie.After-wide Inv-loop μ-loop) → c .wide .result < 512
-low-from c = rw (c .wide .ensures) (c .before .before .before .loop .inv .joins .from-low _ (c .before .before .loop-test .taken))
+low-from : (c : tie.After-to-index Inv-loop μ-loop) → c .to-index .result < 512
+low-from c = rw (c .to-index .ensures) (c .before .before .before .loop .inv .joins .from-low _ (c .before .before .loop-test .taken))
 
-low-to : (c : tie.After-wide2 Inv-loop μ-loop) → c .wide2 .result < 512
-low-to c = rw (c .wide2 .ensures) (c .before .before .before .before .before .loop .inv .joins .to-low _ (c .before .before .before .before .loop-test .taken))
+low-to : (c : tie.After-to-index2 Inv-loop μ-loop) → c .to-index2 .result < 512
+low-to c = rw (c .to-index2 .ensures) (c .before .before .before .before .before .loop .inv .joins .to-low _ (c .before .before .before .before .loop-test .taken))
 
 no-marks-requires : tie.Need-no-marks-requires Inv-loop μ-loop
 no-marks-requires c κs = search needs
@@ -24,23 +24,23 @@ no-marks-requires c κs = search needs
 loop-holds : tie.Need-loop-holds Inv-loop μ-loop
 loop-holds c = marking-begin _ _ _ _ _ (c .before .pre) (c .no-marks .ensures)
 
-mul-wide : tie.Need-mul-wide Inv-loop μ-loop
-mul-wide c = search needs
+mul-to-index : tie.Need-mul-to-index Inv-loop μ-loop
+mul-to-index c = search needs
 
-element-copy-out-wide : tie.Need-element-copy-out-wide Inv-loop μ-loop
-element-copy-out-wide c = search needs
+element-copy-out-to-index : tie.Need-element-copy-out-to-index Inv-loop μ-loop
+element-copy-out-to-index c = search needs
 
-wide-requires : tie.Need-wide-requires Inv-loop μ-loop
-wide-requires c κs = search needs
+to-index-requires : tie.Need-to-index-requires Inv-loop μ-loop
+to-index-requires c κs = search needs
 
-mul-wide-2 : tie.Need-mul-wide-2 Inv-loop μ-loop
-mul-wide-2 c = search needs
+mul-to-index-2 : tie.Need-mul-to-index-2 Inv-loop μ-loop
+mul-to-index-2 c = search needs
 
-element-copy-out-wide-2 : tie.Need-element-copy-out-wide-2 Inv-loop μ-loop
-element-copy-out-wide-2 c = search needs
+element-copy-out-to-index-2 : tie.Need-element-copy-out-to-index-2 Inv-loop μ-loop
+element-copy-out-to-index-2 c = search needs
 
-wide-requires-2 : tie.Need-wide-requires-2 Inv-loop μ-loop
-wide-requires-2 c κs = search needs
+to-index-requires-2 : tie.Need-to-index-requires-2 Inv-loop μ-loop
+to-index-requires-2 c κs = search needs
 
 array-read-is-either : tie.Need-array-read-is-either Inv-loop μ-loop
 array-read-is-either c = low-to c
@@ -61,7 +61,7 @@ loop-less : tie.Need-loop-less Inv-loop μ-loop
 loop-less c = search needs
 
 loop-again : tie.Need-loop-again Inv-loop μ-loop
-loop-again c = marking-more _ _ _ _ (c .before .before .before .before .before .before .before .loop .inv) (c .before .before .before .before .before .before .loop-test .taken) _ _ _ (c .before .before .before .before .wide .ensures) (c .before .before .wide2 .ensures) (c .is-either .ensures)
+loop-again c = marking-more _ _ _ _ (c .before .before .before .before .before .before .before .loop .inv) (c .before .before .before .before .before .before .loop-test .taken) _ _ _ (c .before .before .before .before .to-index .ensures) (c .before .before .to-index2 .ensures) (c .is-either .ensures)
 
 returns : tie.Need-returns Inv-loop μ-loop
 returns c = marking-done _ _ _ _ (c .before .loop .inv) (c .loop-test .left)
@@ -74,12 +74,12 @@ targets-of-spec =
     μ-loop
     no-marks-requires
     loop-holds
-    mul-wide
-    element-copy-out-wide
-    wide-requires
-    mul-wide-2
-    element-copy-out-wide-2
-    wide-requires-2
+    mul-to-index
+    element-copy-out-to-index
+    to-index-requires
+    mul-to-index-2
+    element-copy-out-to-index-2
+    to-index-requires-2
     array-read-is-either
     element-copy-out-is-either
     is-either-requires
