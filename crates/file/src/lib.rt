@@ -51,6 +51,12 @@ pub enum FileCheck {
     Refused(Refusal),
 }
 
+// Whether a call that makes something of records was accepted.
+pub enum Outcome {
+    Done,
+    Refused(Refusal),
+}
+
 // Where a record stands in the file.
 pub enum Place {
     At { offset: usize, length: usize },

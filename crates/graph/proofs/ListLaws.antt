@@ -367,3 +367,10 @@ member-keep p v l = keep-any p (eqb v) l ∙ bool-ext (anyOf (λ x. p x && eqb v
     (λ h. let r = any-at (eqb v) l 0 (and-r (p v) (member v l) h) in
     let e : v ≡ getD l (r .0) 0 = eqb-true _ _ (r .2) in
     at-any (λ x. p x && eqb v x) l 0 (r .0) (r .1) (and-intro (p (getD l (r .0) 0)) (eqb v (getD l (r .0) 0)) (sym (ap p e) ∙ and-l (p v) (member v l) h) (r .2)))
+
+-- ---- an entry of a list's image
+
+pub map-at : {A B : Type 0} (f : A → B) (l : List A) (i : ℕ) (a : A) (b : B) → i < length l → getD (map f l) i b ≡ f (getD l i a)
+map-at f [] i a b h = absurd (omega arith)
+map-at f (x ∷ l) zero a b h = refl
+map-at f (x ∷ l) (suc i) a b h = map-at f l i a b (omega arith)

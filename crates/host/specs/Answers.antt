@@ -11,8 +11,8 @@ use Rattle.queries.specs.Queries.{Lent}
 use Rattle.insertion.specs.declared.Answer.{Answer}
 use Rattle.insertion.specs.declared.Answer.the-variants.{Node, Refused as NotInserted}
 use Rattle.insertion.specs.declared.Inserted.{Inserted}
-use Rattle.insertion.specs.declared.Outcome.{Outcome}
-use Rattle.insertion.specs.declared.Outcome.the-variants.{Done, Refused as NotLoaded}
+use Rattle.file.specs.declared.Outcome.{Outcome}
+use Rattle.file.specs.declared.Outcome.the-variants.{Done, Refused as NotLoaded}
 use Rattle.insertion.specs.declared.Loaded.{Loaded}
 use Rattle.walk.specs.declared.NextBlock.{NextBlock}
 use Rattle.walk.specs.declared.NextBlock.the-variants.{Block, None, Refused as NotStepped}

@@ -2,10 +2,10 @@
 ghost use mathlib.Core.Path.{_≡_};
 ghost use Rattle.host.specs.Answers.{numberOr, accepts, refuses, ofQuery, ofInserted, ofLoaded, ofStep, ofWalk};
 use crate::HostAnswer;
+use file::Outcome;
 use file::Refusal;
 use file::RefusalValue;
 use insertion::Answer;
-use insertion::Outcome;
 use queries::Query;
 use walk::BlockCount;
 use walk::NextBlock;

@@ -1,5 +1,5 @@
--- A load is the list of insertions of its file's records (specs/Built.antt). A single insertion refuses "record (0 on
--- insertion)" and tests soundness first, a load does neither: the number stands in the refusals only, and every graph on the
+-- A load and a conversion are lists of insertions of their file's records (specs/Built.antt). A single insertion refuses "record (0 on
+-- insertion)" and tests soundness first, these do neither: the number stands in the refusals only, and every graph on the
 -- way is sound. Assumes nothing.
 use mathlib.Core.Path.{_≡_, refl, sym, _∙_, ap}
 use mathlib.Core.Bool.{Bool, true, false, cond, not}
@@ -9,9 +9,9 @@ use native.Mathlib.Omega.{arith}
 use native.Mathlib.Decide.{ℕ-discrete}
 use native.Mathlib.Numerals.{add-one}
 use lib.Dec.{leb}
-use lib.ListN.{length, take}
-use lib.Seq.{take-suc, take-all}
-use Rattle.file.specs.Lists.{countFrom}
+use lib.ListN.{length, getD, take, drop, length-map, drop-of-length-le}
+use lib.Seq.{take-suc, take-all, drop-cons}
+use Rattle.file.specs.Lists.{keep, upTo}
 use Rattle.file.specs.Pairs.{countOf, checkFile, recordAt}
 use Rattle.file.specs.Records.{recordRule}
 use Rattle.file.specs.declared.FileCheck.{FileCheck}
@@ -21,18 +21,19 @@ use Rattle.file.specs.declared.Refusal.the-variants.{BadRecord, TooManyNodes, T
 use Rattle.graph.specs.declared.NodeIndex.{NodeIndex}
 use Rattle.graph.specs.declared.CircuitDag.{CircuitDag}
 use Rattle.graph.specs.Dag.{node, size, empty}
-use Rattle.graph.proofs.ListLaws.{length-upTo, upTo-at}
+use Rattle.graph.proofs.ListLaws.{map-at}
 use Rattle.insertion.specs.declared.Answer.{Answer}
 use Rattle.insertion.specs.declared.Answer.the-variants.{Node, Refused}
 use Rattle.insertion.specs.declared.Inserted.{Inserted}
-use Rattle.insertion.specs.declared.Outcome.the-variants.{Done}
+use Rattle.file.specs.declared.Outcome.the-variants.{Done}
 use Rattle.insertion.specs.declared.Loaded.{Loaded}
 use Rattle.links.specs.Links.{nearAll}
 use Rattle.insertion.specs.Insertion.{grown}
 use Rattle.insertion.specs.Limits.{accepts, insertAs, insertOf, refused, edgesPass, registersPass}
 use Rattle.insertion.specs.Load.{notLoaded, insertRecords, loadChecked, load}
 use Rattle.insertion.specs.Calls.{graphAfter, final}
-use Rattle.insertion.specs.Built.{recordsOf, atRecord, stepOf, LoadInserts}
+use Rattle.insertion.specs.Conversion.{broken, insertionOrder, convert, convertChecked, fromCircuit}
+use Rattle.insertion.specs.Built.{atRecord, recordsIn, stepIn, Inserts, LoadInserts, ConversionInserts}
 use Rattle.insertion.proofs.BuiltLaws.{sound-built}
 
 -- ---- one record
@@ -93,113 +94,133 @@ goes-on s l i (Refused r) g h = let z : _≡_ {A = ℕ} 0 1 = cc in absurd (omeg
 stops : (s l : List ℕ) (i : ℕ) (a : Answer) (g : CircuitDag) (r : Refusal) → a ≡ Refused r → goesOn s l (record { answer = numbered i a; graph = g }) ≡ notLoaded (atRecord i r)
 stops s l i a g r h = ap (λ (b : Answer). goesOn s l (record { answer = numbered i b; graph = g })) h
 
--- the load from record k on, after the insertions of those before
-abbrev left : List ℕ → ℕ → Loaded
-left s k = insertRecords s (final (take k (recordsOf s))) (countFrom (countOf s - k) k)
-
 -- an accepted load with the graph after these insertions
 abbrev done : List (List ℕ) → Loaded
 done l = record { answer = Done; graph = final l }
 
--- the insertions of the first k records are accepted
-abbrev Accepted : List ℕ → ℕ → Type 0
-Accepted s k = (j : ℕ) → j < k → accepts (stepOf s j .answer) ≡ true
+module _ (s order : List ℕ) where
+  abbrev records : List (List ℕ)
+  records = recordsIn s order
 
-module _ (s : List ℕ) where
-  -- the insertion of record k leaves the graph after k + 1 insertions
-  graph-next : (k : ℕ) → k < countOf s → final (take (k + 1) (recordsOf s)) ≡ stepOf s k .graph
+  -- the number of the k-th record
+  abbrev number : ℕ → ℕ
+  number k = getD order k 0
+
+  -- the insertions from the k-th record on, after those of the records before
+  abbrev left : ℕ → Loaded
+  left k = insertRecords s (final (take k records)) (drop k order)
+
+  -- the insertions of the first k records are accepted
+  abbrev Accepted : ℕ → Type 0
+  Accepted k = (j : ℕ) → j < k → accepts (stepIn s order j .answer) ≡ true
+
+  -- the insertion of the k-th record leaves the graph after k + 1 insertions
+  graph-next : (k : ℕ) → k < length order → final (take (k + 1) records) ≡ stepIn s order k .graph
   graph-next k h =
-      let c : k < length (recordsOf s) = omega (arith, length-upTo (recordAt s) (countOf s)) in
-      let t : take (k + 1) (recordsOf s) ≡ take k (recordsOf s) ++ (recordAt s k ∷ []) = rw (add-one, take-suc (recordsOf s) k [] c, upTo-at (recordAt s) (countOf s) k [] h) refl in
-      ap final t ∙ after-last (take k (recordsOf s)) empty (recordAt s k)
+      let c : k < length records = omega (arith, length-map order (recordAt s)) in
+      let t : take (k + 1) records ≡ take k records ++ (recordAt s (number k) ∷ []) = rw (add-one, take-suc records k [] c, map-at (recordAt s) order k 0 [] h) refl in
+      ap final t ∙ after-last (take k records) empty (recordAt s (number k))
 
-  -- record k in the load is that insertion, with its number
-  step-as : (k : ℕ) → insertAs nearAll k (final (take k (recordsOf s))) (recordAt s k) ≡ asRecord k (stepOf s k)
+  -- the k-th record in its turn is that insertion, with its number
+  step-as : (k : ℕ) → insertAs nearAll (number k) (final (take k records)) (recordAt s (number k)) ≡ asRecord (number k) (stepIn s order k)
   step-as k =
-      insert-as k (final (take k (recordsOf s))) (recordAt s k)
-      ∙ ap (asRecord k) (sym (sound-built (take k (recordsOf s)) .never (recordAt s k)))
+      insert-as (number k) (final (take k records)) (recordAt s (number k))
+      ∙ ap (asRecord (number k)) (sym (sound-built (take k records) .never (recordAt s (number k))))
 
-  -- one turn of the load
-  turn : (k : ℕ) → k < countOf s → left s k ≡ goesOn s (countFrom (countOf s - (k + 1)) (k + 1)) (asRecord k (stepOf s k))
-  unfolding countFrom
+  turn : (k : ℕ) → k < length order → left k ≡ goesOn s (drop (k + 1) order) (asRecord (number k) (stepIn s order k))
   turn k h =
-      let z : countOf s - k ≡ suc (countOf s - (k + 1)) = omega arith in
-      let r = countFrom (countOf s - (k + 1)) (k + 1) in
-      ap (λ (m : ℕ). insertRecords s (final (take k (recordsOf s))) (countFrom m k)) z
-      ∙ next-record s (final (take k (recordsOf s))) k r
-      ∙ ap (goesOn s r) (step-as k)
+      let z : suc k ≡ k + 1 = omega arith in
+      ap (insertRecords s (final (take k records))) (drop-cons order k 0 h ∙ ap (λ (m : ℕ). number k ∷ drop m order) z)
+      ∙ next-record s (final (take k records)) (number k) (drop (k + 1) order)
+      ∙ ap (goesOn s (drop (k + 1) order)) (step-as k)
 
-  accepted-next : (k : ℕ) → k < countOf s → accepts (stepOf s k .answer) ≡ true → left s k ≡ left s (k + 1)
+  accepted-next : (k : ℕ) → k < length order → accepts (stepIn s order k .answer) ≡ true → left k ≡ left (k + 1)
   accepted-next k h e =
-      let r = countFrom (countOf s - (k + 1)) (k + 1) in
       turn k h
-      ∙ goes-on s r k (stepOf s k .answer) (stepOf s k .graph) e
-      ∙ ap (λ (g : CircuitDag). insertRecords s g r) (sym (graph-next k h))
+      ∙ goes-on s (drop (k + 1) order) (number k) (stepIn s order k .answer) (stepIn s order k .graph) e
+      ∙ ap (λ (g : CircuitDag). insertRecords s g (drop (k + 1) order)) (sym (graph-next k h))
 
-  refused-stops : (k : ℕ) (r : Refusal) → k < countOf s → stepOf s k .answer ≡ Refused r → left s k ≡ notLoaded (atRecord k r)
-  refused-stops k r h e = turn k h ∙ stops s (countFrom (countOf s - (k + 1)) (k + 1)) k (stepOf s k .answer) (stepOf s k .graph) r e
+  refused-stops : (k : ℕ) (r : Refusal) → k < length order → stepIn s order k .answer ≡ Refused r → left k ≡ notLoaded (atRecord (number k) r)
+  refused-stops k r h e = turn k h ∙ stops s (drop (k + 1) order) (number k) (stepIn s order k .answer) (stepIn s order k .graph) r e
 
-  -- ---- the whole load
+  -- ---- all of them
 
-  -- the load stands at record 0 ..
-  starts : checkFile s ≡ Sound → load s ≡ left s 0
-  unfolding load graphAfter
-  starts e =
-      let z : countOf s ≡ countOf s - 0 = omega arith in
-      ap (λ (c : FileCheck). loadChecked c s) e ∙ ap (λ (m : ℕ). insertRecords s empty (countFrom m 0)) z
+  abbrev whole : Loaded
+  whole = insertRecords s empty order
 
-  -- .. comes to record k where all before it are accepted ..
-  reaches : (k : ℕ) → k ≤ countOf s → Accepted s k → checkFile s ≡ Sound → load s ≡ left s k
-  reaches zero h a e = starts e
-  reaches (suc k) h a e =
+  -- the k-th record has its turn where all before it are accepted ..
+  reaches : (k : ℕ) → k ≤ length order → Accepted k → whole ≡ left k
+  unfolding graphAfter
+  reaches zero h a = refl
+  reaches (suc k) h a =
       let z : k + 1 ≡ suc k = omega arith in
-      reaches k (omega arith) (λ j l. a j (omega arith)) e
+      reaches k (omega arith) (λ j l. a j (omega arith))
       ∙ accepted-next k (omega arith) (a k (omega arith))
-      ∙ ap (left s) z
+      ∙ ap left z
 
-  -- .. and is done behind the last
-  ends : left s (countOf s) ≡ done (recordsOf s)
-  unfolding insertRecords countFrom
+  -- .. and behind the last all is done
+  ends : left (length order) ≡ done records
+  unfolding insertRecords
   ends =
-      let z : countOf s - countOf s ≡ 0 = omega arith in
-      let t : take (countOf s) (recordsOf s) ≡ recordsOf s = take-all (countOf s) (recordsOf s) (omega (arith, length-upTo (recordAt s) (countOf s))) in
-      ap (λ (m : ℕ). insertRecords s (final (take (countOf s) (recordsOf s))) (countFrom m (countOf s))) z
+      let t : take (length order) records ≡ records = take-all (length order) records (omega (arith, length-map order (recordAt s))) in
+      ap (insertRecords s (final (take (length order) records))) (drop-of-length-le order {i = length order} (omega arith))
       ∙ ap done t
 
-  loaded : checkFile s ≡ Sound → Accepted s (countOf s) → load s ≡ done (recordsOf s)
-  loaded e a = reaches (countOf s) (omega arith) a e ∙ ends
+  all-done : Accepted (length order) → whole ≡ done records
+  all-done a = reaches (length order) (omega arith) a ∙ ends
 
-  refuses : (i : ℕ) (r : Refusal) → checkFile s ≡ Sound → i < countOf s → Accepted s i → stepOf s i .answer ≡ Refused r → load s ≡ notLoaded (atRecord i r)
-  refuses i r e h a q = reaches i (omega arith) a e ∙ refused-stops i r h q
+  refuses : (k : ℕ) (r : Refusal) → k < length order → Accepted k → stepIn s order k .answer ≡ Refused r → whole ≡ notLoaded (atRecord (number k) r)
+  refuses k r h a q = reaches k (omega arith) a ∙ refused-stops k r h q
 
-  -- a load that is accepted: its file is sound ..
-  file-sound : load s .answer ≡ Done → checkFile s ≡ Sound
-  unfolding load
-  file-sound = checked (checkFile s)
-    where
-      checked : (c : FileCheck) → loadChecked c s .answer ≡ Done → c ≡ Sound
-      checked Sound h = refl
-      checked (BadFile r) h = let z : _≡_ {A = ℕ} 0 1 = cc in absurd (omega arith)
-
-  -- .. and no record is the first one refused ..
-  not-refused : load s .answer ≡ Done → (k : ℕ) → k < countOf s → Accepted s k → (x : Answer) → stepOf s k .answer ≡ x → accepts x ≡ true
+  -- where all is accepted, no record is the first one refused ..
+  not-refused : whole .answer ≡ Done → (k : ℕ) → k < length order → Accepted k → (x : Answer) → stepIn s order k .answer ≡ x → accepts x ≡ true
   not-refused d k h a (Node v) q = refl
   not-refused d k h a (Refused r) q =
-      let t = refuses k r (file-sound d) h a q in
+      let t = refuses k r h a q in
       let z : _≡_ {A = ℕ} 0 1 = cc in
       absurd (omega arith)
 
-  -- .. so all are accepted
-  accepted : load s .answer ≡ Done → (k : ℕ) → k ≤ countOf s → Accepted s k
+  -- .. so each is accepted
+  accepted : whole .answer ≡ Done → (k : ℕ) → k ≤ length order → Accepted k
   accepted d zero h j l = absurd (omega arith)
   accepted d (suc k) h j l =
-      let a : Accepted s k = accepted d k (omega arith) in
-      elim (ℕ-discrete j k) [ yes e ↦ rw e (not-refused d k (omega arith) a (stepOf s k .answer) refl) | no e ↦ a j (omega arith) ]
+      let a : Accepted k = accepted d k (omega arith) in
+      elim (ℕ-discrete j k) [ yes e ↦ rw e (not-refused d k (omega arith) a (stepIn s order k .answer) refl) | no e ↦ a j (omega arith) ]
+
+  inserts : (x : Loaded) → x ≡ whole → Inserts s order x
+  inserts x e =
+      let answer : x .answer ≡ whole .answer = ap (λ (y : Loaded). y .answer) e in
+      record {
+        done = λ d. ap (λ (y : Loaded). y .graph) (e ∙ all-done (accepted (sym answer ∙ d) (length order) (omega arith)));
+        each = λ d. accepted (sym answer ∙ d) (length order) (omega arith);
+        refused = λ k r h a q. e ∙ refuses k r h a q;
+        whole = λ a. ap (λ (y : Loaded). y .answer) (e ∙ all-done a);
+      }
+
+-- ---- a load and a conversion
 
 pub load-inserts : (s : List ℕ) → LoadInserts s
+unfolding load
 load-inserts s = record {
-  done = λ d. ap (λ (x : Loaded). x .graph) (loaded s (file-sound s d) (accepted s d (countOf s) (omega arith)));
-  each = λ d. accepted s d (countOf s) (omega arith);
-  refused = refuses s;
-  whole = λ e a. ap (λ (x : Loaded). x .answer) (loaded s e a);
+  sound = checked (checkFile s);
+  inserts = λ e. inserts s (upTo (countOf s)) (load s) (ap (λ (c : FileCheck). loadChecked c s) e);
 }
+  where
+    checked : (c : FileCheck) → loadChecked c s .answer ≡ Done → c ≡ Sound
+    checked Sound h = refl
+    checked (BadFile r) h = let z : _≡_ {A = ℕ} 0 1 = cc in absurd (omega arith)
+
+pub conversion-inserts : (s : List ℕ) → ConversionInserts s
+unfolding fromCircuit
+conversion-inserts s = record {
+  sound = checked (checkFile s);
+  inserts = λ e b. inserts s (insertionOrder s) (fromCircuit s) (ap (λ (c : FileCheck). convertChecked c s) e ∙ ap (convert s) b);
+}
+  where
+    listed : (l : List ℕ) → convert s l .answer ≡ Done → l ≡ []
+    listed [] h = refl
+    listed (i ∷ l) h = let z : _≡_ {A = ℕ} 0 1 = cc in absurd (omega arith)
+
+    checked : (c : FileCheck) → convertChecked c s .answer ≡ Done → (c ≡ Sound) × (keep (broken s) (upTo (countOf s)) ≡ [])
+    checked Sound h = (refl, listed (keep (broken s) (upTo (countOf s))) h)
+    checked (BadFile r) h = let z : _≡_ {A = ℕ} 0 1 = cc in absurd (omega arith)

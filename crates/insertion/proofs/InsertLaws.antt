@@ -1,6 +1,6 @@
 -- A single insertion: the parts of a sound graph may be handed over, and what comes back is the rule's answer. Assumes nothing.
 use mathlib.Core.Path.{_≡_, refl, sym, _∙_, ap}
-use mathlib.Core.Bool.{Bool, true, false, cond, not, _&&_}
+use mathlib.Core.Bool.{Bool, true, false, cond, _&&_}
 use mathlib.Core.List.{List, _++_}
 use Prim.Native.Nat.{ℕ, zero, suc, _+_, _≤_, _<_}
 use native.Mathlib.Omega.{arith}
@@ -19,19 +19,21 @@ use Rattle.graph.specs.Soundness.{sound, named, ifPresent, registerMapRule}
 use Rattle.graph.proofs.BoolLaws.{and-l, and-r}
 use Rattle.graph.proofs.SizeLaws.{DagSized}
 use Rattle.graph.proofs.SoundnessLaws.{Sound, sound-told, sound-clauses, all-left, all-right}
-use Rattle.links.specs.declared.LinkAnswer.the-variants.{Done as Linked-all, Refused as Not-linked}
+use Rattle.file.specs.declared.Outcome.{Outcome}
+use Rattle.file.specs.declared.Outcome.the-variants.{Done, Refused}
 use Rattle.links.specs.declared.LinkedRecords.{LinkedRecords}
 use Rattle.links.specs.Links.{nearAll}
-use Rattle.links.specs.Linking.{linksFit, linksStopped, linkRecord, linkNode}
+use Rattle.links.specs.Linking.{linksFit, linksStopped, linkRecord, linksKept, linkNode}
+use Rattle.links.proofs.LinkingLaws.{when-done}
 use Rattle.registers.specs.declared.Registered.{Registered}
-use Rattle.registers.specs.Registers.{mapsAfter, mapsPass, stored, registerRecord}
+use Rattle.registers.specs.Registers.{mapsAfter, mapsPass, stored, mapsKept, registerRecord}
 use Rattle.insertion.specs.declared.Answer.the-variants.{Node}
 use Rattle.insertion.specs.declared.Inserted.{Inserted}
 use Rattle.insertion.specs.declared.nodes.NodeLists.{NodeLists}
 use Rattle.insertion.specs.Insertion.{commutes, grown}
 use Rattle.insertion.specs.Limits.{refused, edgesPass, insertAs, insertOf}
 use Rattle.insertion.specs.Parts.{nodeLists, nodeAfter, assembled}
-use Rattle.insertion.proofs.PartLaws.{linksOf, not-both, full, over, many, grows, links-full, links-over, links-grown, maps-pass, registers-at, nodes-at}
+use Rattle.insertion.proofs.PartLaws.{linksOf, mapsOf, not-both, full, over, many, grows, links-full, links-over, links-grown, maps-pass, registers-at, nodes-at}
 
 -- m numbers below n that rise are no more than n
 rising : (f : ℕ → ℕ) (m : ℕ) → ((i j : ℕ) → i < j → j < m → f i < f j) → (i : ℕ) → i < m → i ≤ f i
@@ -98,11 +100,11 @@ module _ (g : CircuitDag) (b : List ℕ) (keeps : recordRule b ≡ true) where
   once = linkRecord 0 (front b) (qubitsOf b) (linksOf g)
 
   -- a refusal by the links
-  pub link-refused : (c : Refusal) → once .answer ≡ Not-linked c → refused c g ≡ insertAs nearAll 0 g b
+  pub link-refused : (c : Refusal) → once .answer ≡ Refused c → refused c g ≡ insertAs nearAll 0 g b
   link-refused c e = by-limits (leb 512 (size g)) (edgesPass nearAll g b) refl refl
     where
       same : (d : Refusal) → once ≡ linksStopped (size g) d → insertAs nearAll 0 g b ≡ refused d g → refused c g ≡ insertAs nearAll 0 g b
-      same d q i = let w : Not-linked d ≡ Not-linked c = rw q at e in let y : d ≡ c = cc in ap (λ (x : Refusal). refused x g) (sym y) ∙ sym i
+      same d q i = let w : Refused d ≡ Refused c = rw q at e in let y : d ≡ c = cc in ap (λ (x : Refusal). refused x g) (sym y) ∙ sym i
 
       by-limits : (p q : Bool) → leb 512 (size g) ≡ p → edgesPass nearAll g b ≡ q → refused c g ≡ insertAs nearAll 0 g b
       by-limits true q l m = same TooManyNodes (links-full 0 g b l) (full 0 g b keeps l)
@@ -110,7 +112,7 @@ module _ (g : CircuitDag) (b : List ℕ) (keeps : recordRule b ≡ true) where
       by-limits false false l m = not-both c (sym (ap (λ (x : LinkedRecords). x .answer) (links-grown 0 g b keeps l m)) ∙ e)
 
   -- the links accept: there is a free node, and room for the edges
-  module _ (done : once .answer ≡ Linked-all) where
+  module _ (done : once .answer ≡ Done) where
     pub free : leb 512 (size g) ≡ false
     free = by-limit (leb 512 (size g)) refl
       where
@@ -139,29 +141,32 @@ module _ (g : CircuitDag) (b : List ℕ) (keeps : recordRule b ≡ true) where
       after = grown nearAll g b
 
       abbrev new : Registered
-      new = stored (front b) 1 (g .«first_registers») (g .«last_registers») (mapsAfter b (size g) (g .«first_registers») (g .«last_registers»))
+      new = stored (front b) (v .0 + 1) (g .«first_registers») (g .«last_registers») (mapsAfter b (size g) (g .«first_registers») (g .«last_registers»))
 
-      maps-by : (p : Bool) → passing ≡ p → maps ≡ cond (not p) new (record { accepted = 0; first = g .«first_registers»; last = g .«last_registers» })
+      maps-by : (p : Bool) → passing ≡ p → maps ≡ cond p (mapsKept v (g .«first_registers») (g .«last_registers») (TooManyRegisters 0)) new
       unfolding registerRecord
-      maps-by p e = rw (is, first, last, e) refl
+      maps-by p e = rw (is, first, last, free, e) refl
 
-      pub too-many : maps .accepted ≡ 0 → refused (TooManyRegisters 0) g ≡ insertAs nearAll 0 g b
-      too-many z = by-pass passing refl
+      pub too-many : (c : Refusal) → maps .answer ≡ Refused c → refused c g ≡ insertAs nearAll 0 g b
+      too-many c z = by-pass passing refl
         where
-          by-pass : (p : Bool) → passing ≡ p → refused (TooManyRegisters 0) g ≡ insertAs nearAll 0 g b
-          by-pass true e = sym (many 0 g b keeps free room (maps-pass 0 g b ∙ e))
-          by-pass false e = let q : _≡_ {A = ℕ} 1 0 = sym (ap (λ (x : Registered). x .accepted) (maps-by false e)) ∙ z in absurd (omega arith)
+          by-pass : (p : Bool) → passing ≡ p → refused c g ≡ insertAs nearAll 0 g b
+          by-pass true e =
+              let w : Refused (TooManyRegisters 0) ≡ Refused c = sym (ap (λ (x : Registered). x .answer) (maps-by true e)) ∙ z in
+              let y : TooManyRegisters 0 ≡ c = cc in
+              ap (λ (x : Refusal). refused x g) (sym y) ∙ sym (many 0 g b keeps free room (maps-pass 0 g b ∙ e))
+          by-pass false e = not-both c (sym (ap (λ (x : Registered). x .answer) (maps-by false e)) ∙ z)
 
-      pub inserted : (maps .accepted ≡ 0 → ⊥) → record { answer = Node v; graph = assembled (nodeAfter b (nodeLists g)) once maps } ≡ insertAs nearAll 0 g b
+      pub inserted : maps .answer ≡ Done → record { answer = Node v; graph = assembled (nodeAfter b (nodeLists g)) once maps } ≡ insertAs nearAll 0 g b
       inserted z = by-pass passing refl
         where
           by-pass : (p : Bool) → passing ≡ p → record { answer = Node v; graph = assembled (nodeAfter b (nodeLists g)) once maps } ≡ insertAs nearAll 0 g b
-          by-pass true e = absurd (z (ap (λ (x : Registered). x .accepted) (maps-by true e)))
+          by-pass true e = not-both (TooManyRegisters 0) (sym z ∙ ap (λ (x : Registered). x .answer) (maps-by true e))
           by-pass false e =
               let d = grows 0 g b keeps free room (maps-pass 0 g b ∙ e) in
               let n = nodes-at g b (front b) (commutes b) refl refl in
               let r = maps-by false e in
-              let q = registers-at g b (front b) refl in
+              let q : new ≡ mapsOf after = (λ j. stored (front b) (is j + 1) (g .«first_registers») (g .«last_registers») (mapsAfter b (size g) (g .«first_registers») (g .«last_registers»))) ∙ registers-at g b (front b) refl in
               let w : v ≡ node (size g) = λ j. record { 0 = is j } in
               let x = links-grown 0 g b keeps free room in
               let here : _≡_ {A = Inserted} (record { answer = Node v; graph = assembled (nodeAfter b (nodeLists g)) once maps }) (record { answer = Node (node (size g)); graph = assembled (nodeLists after) (linksOf after) new }) = λ j. record { answer = Node (w j); graph = assembled (n j) (x j) (r j) } in
@@ -171,18 +176,28 @@ module _ (g : CircuitDag) (b : List ℕ) (keeps : recordRule b ≡ true) where
 -- ---- `insert_sound`
 
 module _ (g : CircuitDag) (h : sound g ≡ true) (z : DagSized g) (b : List ℕ) (keeps : recordRule b ≡ true) where
-  -- what the links of the parsed record are
-  pub linked-once : (s : Record) (x : LinkedRecords) → s ≡ recordOf b → x ≡ linkNode (s .front) (s .qubits) (node (size g)) (g .edges) (g .first) (g .last) → x ≡ once g b keeps
-  unfolding linkNode
-  linked-once s x is e = rw (e, is, links-fit g h z) refl
+  -- the links of the parsed record
+  module _ (s : Record) (x : LinkedRecords) (is : s ≡ recordOf b) (ex : x ≡ linkNode (s .front) (s .qubits) (node (size g)) (g .edges) (g .first) (g .last)) where
+    by-answer : x ≡ elim (once g b keeps .answer) [ Done ↦ once g b keeps | Refused r ↦ linksKept (node (size g)) (g .edges) (g .first) (g .last) r ]
+    unfolding linkNode
+    by-answer = ex ∙ ap (λ (r : Record). linkNode (r .front) (r .qubits) (node (size g)) (g .edges) (g .first) (g .last)) is ∙ rw (links-fit g h z) refl
 
-  module _ (x : LinkedRecords) (ex : x ≡ once g b keeps) where
-    pub stays : (c : Refusal) → x .answer ≡ Not-linked c → refused c g ≡ insertAs nearAll 0 g b
-    stays c e = link-refused g b keeps c (sym (ap (λ (y : LinkedRecords). y .answer) ex) ∙ e)
+    answer-is : x .answer ≡ once g b keeps .answer
+    answer-is = ap (λ (y : LinkedRecords). y .answer) by-answer ∙ kept (once g b keeps .answer) refl
+      where
+        kept : (a : Outcome) → once g b keeps .answer ≡ a → (let y : LinkedRecords = elim a [ Done ↦ once g b keeps | Refused r ↦ linksKept (node (size g)) (g .edges) (g .first) (g .last) r ] in y .answer ≡ a)
+        kept Done e = e
+        kept (Refused r) e = refl
 
-    module _ (done : x .answer ≡ Linked-all) where
-      all : once g b keeps .answer ≡ Linked-all
-      all = sym (ap (λ (y : LinkedRecords). y .answer) ex) ∙ done
+    pub stays : (c : Refusal) → x .answer ≡ Refused c → refused c g ≡ insertAs nearAll 0 g b
+    stays c e = link-refused g b keeps c (sym answer-is ∙ e)
+
+    module _ (done : x .answer ≡ Done) where
+      all : once g b keeps .answer ≡ Done
+      all = sym answer-is ∙ done
+
+      is-once : x ≡ once g b keeps
+      is-once = by-answer ∙ when-done (once g b keeps) (linksKept (node (size g)) (g .edges) (g .first) (g .last)) (once g b keeps .answer) all
 
       pub lists-fit : (n : NodeLists) → n ≡ nodeLists g → (n .nodes .count < 512) × (n .commuting .count < 512) × (n .backs < 512) × (n .fronts < 512)
       lists-fit n e =
@@ -190,13 +205,13 @@ module _ (g : CircuitDag) (h : sound g ≡ true) (z : DagSized g) (b : List ℕ)
           rw e (f, omega (arith, f, commuting-few g h z), omega (arith, f, ends-sum g h z), omega (arith, f, ends-sum g h z))
 
       module _ (r : Registered) (er : r ≡ registerRecord (g .«first_registers») (g .«last_registers») b (node (size g))) where
-        pub passes : r .accepted ≡ 0 → refused (TooManyRegisters 0) g ≡ insertAs nearAll 0 g b
-        passes e = too-many g b keeps all (first-map g h z) (last-map g h z) (node (size g)) refl (sym (ap (λ (y : Registered). y .accepted) er) ∙ e)
+        pub passes : (c : Refusal) → r .answer ≡ Refused c → refused c g ≡ insertAs nearAll 0 g b
+        passes c e = too-many g b keeps all (first-map g h z) (last-map g h z) (node (size g)) refl c (sym (ap (λ (y : Registered). y .answer) er) ∙ e)
 
-        pub grown-is : (r .accepted ≡ 0 → ⊥) → (l n : NodeLists) → l ≡ nodeLists g → n ≡ nodeAfter b l → (a : CircuitDag) → a ≡ assembled n x r → record { answer = Node (node (size g)); graph = a } ≡ insertAs nearAll 0 g b
+        pub grown-is : r .answer ≡ Done → (l n : NodeLists) → l ≡ nodeLists g → n ≡ nodeAfter b l → (a : CircuitDag) → a ≡ assembled n x r → record { answer = Node (node (size g)); graph = a } ≡ insertAs nearAll 0 g b
         grown-is e l n el en a ea =
-            let i = inserted g b keeps all (first-map g h z) (last-map g h z) (node (size g)) refl (λ y. e (ap (λ (q : Registered). q .accepted) er ∙ y)) in
-            let p : a ≡ assembled (nodeAfter b (nodeLists g)) (once g b keeps) (registerRecord (g .«first_registers») (g .«last_registers») b (node (size g))) = ea ∙ (λ j. assembled (en j) (ex j) (er j)) ∙ ap (λ (y : NodeLists). assembled (nodeAfter b y) (once g b keeps) (registerRecord (g .«first_registers») (g .«last_registers») b (node (size g)))) el in
+            let i = inserted g b keeps all (first-map g h z) (last-map g h z) (node (size g)) refl (sym (ap (λ (q : Registered). q .answer) er) ∙ e) in
+            let p : a ≡ assembled (nodeAfter b (nodeLists g)) (once g b keeps) (registerRecord (g .«first_registers») (g .«last_registers») b (node (size g))) = ea ∙ (λ j. assembled (en j) (is-once j) (er j)) ∙ ap (λ (y : NodeLists). assembled (nodeAfter b y) (once g b keeps) (registerRecord (g .«first_registers») (g .«last_registers») b (node (size g)))) el in
             ap (λ (y : CircuitDag). record { answer = Node (node (size g)); graph = y }) p ∙ i
 
 pub sound-inserts : (g : CircuitDag) (bytes : List ℕ) → sound g ≡ true → insertAs nearAll 0 g bytes ≡ insertOf g bytes

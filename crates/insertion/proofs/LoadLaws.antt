@@ -9,17 +9,15 @@ use lib.Seq.{take-suc-set, take-length}
 use Rattle.file.specs.Lists.{countFrom, upTo}
 use Rattle.file.specs.Pairs.{countOf, checkFile}
 use Rattle.file.specs.declared.Refusal.{Refusal}
-use Rattle.file.specs.declared.Refusal.the-variants.{TooManyRegisters}
 use Rattle.file.specs.declared.FileCheck.the-variants.{Sound, Refused as BadFile}
 use Rattle.file.proofs.PairLaws.{accepted}
 use Rattle.graph.specs.Dag.{empty}
 use Rattle.graph.proofs.ListLaws.{length-countFrom}
-use Rattle.links.specs.declared.LinkAnswer.the-variants.{Done as Linked-all, Refused as Not-linked}
+use Rattle.file.specs.declared.Outcome.the-variants.{Done, Refused}
 use Rattle.links.specs.declared.LinkedRecords.{LinkedRecords}
 use Rattle.links.specs.Linking.{noLinks, linkRecords}
 use Rattle.registers.specs.declared.Registered.{Registered}
 use Rattle.registers.specs.Registers.{registerRecords}
-use Rattle.insertion.specs.declared.Outcome.the-variants.{Done}
 use Rattle.insertion.specs.Load.{notLoaded, insertRecords, load}
 use Rattle.insertion.specs.Parts.{nodeLists, nodesAfter, assembled}
 use Rattle.insertion.proofs.PartLaws.{Together, together, links-between}
@@ -35,14 +33,13 @@ module _ (s l : List ℕ) (x : LinkedRecords) (ex : x ≡ linkRecords s noLinks 
     unfolding empty
     t = rw (er, ex) (together s l empty (omega arith))
 
-    pub many : r .accepted < x .accepted → (i : ℕ) → i ≡ getD l (r .accepted) 0 → notLoaded (TooManyRegisters i) ≡ insertRecords s empty l
-    unfolding empty
-    many h i e = let z : r .accepted - 0 ≡ r .accepted = omega arith in rw e (rw z at (sym (t .many h)))
+    pub many : (c : Refusal) → r .answer ≡ Refused c → notLoaded c ≡ insertRecords s empty l
+    many c h = sym (t .many c h)
 
-    pub stops : (c : Refusal) → x .accepted ≤ r .accepted → x .answer ≡ Not-linked c → notLoaded c ≡ insertRecords s empty l
+    pub stops : (c : Refusal) → r .answer ≡ Done → x .answer ≡ Refused c → notLoaded c ≡ insertRecords s empty l
     stops c h e = sym (t .stops c h e)
 
-    pub done : x .accepted ≤ r .accepted → x .answer ≡ Linked-all → record { answer = Done; graph = assembled (nodesAfter s (nodeLists empty) l) x r } ≡ insertRecords s empty l
+    pub done : r .answer ≡ Done → x .answer ≡ Done → record { answer = Done; graph = assembled (nodesAfter s (nodeLists empty) l) x r } ≡ insertRecords s empty l
     done h e = sym (t .whole h e)
 
 -- ---- `load`

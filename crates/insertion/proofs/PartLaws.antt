@@ -1,12 +1,12 @@
 -- A list of records part by part: the links, the register maps and the nodes, each made by itself, are those of the graph that the records
 -- make together, and the first refusal is the same. Assumes nothing.
 use mathlib.Core.Path.{_≡_, refl, sym, _∙_, ap}
-use mathlib.Core.Bool.{Bool, true, false, cond, not, _||_}
+use mathlib.Core.Bool.{Bool, true, false, cond, not}
 use mathlib.Core.List.{List, [], _∷_, map}
 use Prim.Native.Nat.{ℕ, zero, suc, _+_, _-_, _≤_, _<_}
 use native.Mathlib.Omega.{arith}
 use lib.Dec.{ltb, leb}
-use lib.ListN.{length, getD, take}
+use lib.ListN.{length, take}
 use borrow.Author.Tests.{lt-leb}
 use Rattle.file.specs.Pairs.{recordAt}
 use Rattle.file.specs.Records.{front, recordRule, qubitsOf}
@@ -15,15 +15,14 @@ use Rattle.file.specs.declared.Refusal.{Refusal}
 use Rattle.file.specs.declared.Refusal.the-variants.{BadRecord, TooManyNodes, TooManyEdges, TooManyRegisters}
 use Rattle.graph.specs.declared.CircuitDag.{CircuitDag}
 use Rattle.graph.specs.Dag.{node, size}
-use Rattle.links.specs.declared.LinkAnswer.{LinkAnswer}
-use Rattle.links.specs.declared.LinkAnswer.the-variants.{Done as Linked-all, Refused as Not-linked}
+use Rattle.file.specs.declared.Outcome.{Outcome}
+use Rattle.file.specs.declared.Outcome.the-variants.{Done, Refused}
 use Rattle.links.specs.declared.LinkedRecords.{LinkedRecords}
 use Rattle.links.specs.Links.{Linked, nearAll, link, linkAt, withEdges}
 use Rattle.links.specs.Linking.{linksFrom, linksStopped, linkRecord, linkRecords}
 use Rattle.registers.specs.declared.Registered.{Registered}
-use Rattle.registers.specs.Registers.{mapsAfter, mapsPass, stored, stopped, registersFrom}
+use Rattle.registers.specs.Registers.{mapsAfter, mapsPass, registersOf, stored, mapsStopped, registersFrom}
 use Rattle.insertion.specs.declared.Answer.the-variants.{Node}
-use Rattle.insertion.specs.declared.Outcome.the-variants.{Done}
 use Rattle.insertion.specs.Insertion.{facing, linked, registered, commutes, grown}
 use Rattle.insertion.specs.Limits.{refused, edgesPass, registersPass, insertAs}
 use Rattle.insertion.specs.Load.{notLoaded, insertRecords}
@@ -36,8 +35,8 @@ abbrev pub linksOf : CircuitDag → LinkedRecords
 linksOf g = linksFrom (size g) (g .edges) (g .first) (g .last)
 
 -- .. and its register maps
-abbrev pub registersOf : CircuitDag → Registered
-registersOf g = record { accepted = size g; first = g .«first_registers»; last = g .«last_registers» }
+abbrev pub mapsOf : CircuitDag → Registered
+mapsOf g = registersOf (size g) (g .«first_registers») (g .«last_registers»)
 
 -- ---- one record
 
@@ -57,7 +56,7 @@ module _ (g : CircuitDag) (b : List ℕ) where
   links-at true e = rw e refl
   links-at false e = rw e refl
 
-  pub registers-at : (f : Bool) → front b ≡ f → stored (front b) (size g + 1) (g .«first_registers») (g .«last_registers») (mapsAfter b (size g) (g .«first_registers») (g .«last_registers»)) ≡ registersOf (grown nearAll g b)
+  pub registers-at : (f : Bool) → front b ≡ f → stored (front b) (size g + 1) (g .«first_registers») (g .«last_registers») (mapsAfter b (size g) (g .«first_registers») (g .«last_registers»)) ≡ mapsOf (grown nearAll g b)
   unfolding grown
   registers-at true e = rw e refl
   registers-at false e = rw e refl
@@ -140,42 +139,30 @@ links-between s (i ∷ l) x = by-rule (recordRule (recordAt s i)) (links-between
     next : Between (x .accepted) (x .accepted + 1) (y .accepted)
     next = one-between i (front (recordAt s i)) (qubitsOf (recordAt s i)) x
 
-    by-answer : (a : LinkAnswer) → Between (y .accepted) (y .accepted + length l) (linkRecords s y l .accepted)
-        → Between (x .accepted) (x .accepted + length (i ∷ l)) (cond true (elim a [ Linked-all ↦ linkRecords s y l | Not-linked t ↦ y ]) y .accepted)
-    by-answer Linked-all h = record { low = omega (arith, next .low, h .low); high = omega (arith, next .high, h .high) }
-    by-answer (Not-linked t) h = record { low = next .low; high = omega (arith, next .high) }
+    by-answer : (a : Outcome) → Between (y .accepted) (y .accepted + length l) (linkRecords s y l .accepted)
+        → Between (x .accepted) (x .accepted + length (i ∷ l)) (cond true (elim a [ Done ↦ linkRecords s y l | Refused t ↦ y ]) y .accepted)
+    by-answer Done h = record { low = omega (arith, next .low, h .low); high = omega (arith, next .high, h .high) }
+    by-answer (Refused t) h = record { low = next .low; high = omega (arith, next .high) }
 
     by-rule : (r : Bool) → Between (y .accepted) (y .accepted + length l) (linkRecords s y l .accepted)
-        → Between (x .accepted) (x .accepted + length (i ∷ l)) (cond (not r) (linksStopped (x .accepted) (BadRecord i)) (elim (y .answer) [ Linked-all ↦ linkRecords s y l | Not-linked t ↦ y ]) .accepted)
+        → Between (x .accepted) (x .accepted + length (i ∷ l)) (cond (not r) (linksStopped (x .accepted) (BadRecord i)) (elim (y .answer) [ Done ↦ linkRecords s y l | Refused t ↦ y ]) .accepted)
     by-rule false h = record { low = omega arith; high = omega arith }
     by-rule true h = by-answer (y .answer) h
-
-registers-rise : (s : List ℕ) (l : List ℕ) (x : Registered) → x .accepted ≤ registersFrom s x l .accepted
-unfolding registersFrom
-registers-rise s [] x = omega arith
-registers-rise s (i ∷ l) x = by-limits (leb 512 (x .accepted) || mapsPass (mapsAfter (recordAt s i) (x .accepted) (x .first) (x .last))) (registers-rise s l y)
-  where
-    y : Registered
-    y = stored (front (recordAt s i)) (x .accepted + 1) (x .first) (x .last) (mapsAfter (recordAt s i) (x .accepted) (x .first) (x .last))
-
-    by-limits : (p : Bool) → y .accepted ≤ registersFrom s y l .accepted → x .accepted ≤ cond p (stopped (x .accepted)) (registersFrom s y l) .accepted
-    by-limits true h = omega arith
-    by-limits false h = omega arith
 
 -- the links of the records, and the register maps of those that the links accept
 abbrev linksIn : List ℕ → CircuitDag → List ℕ → LinkedRecords
 linksIn s g l = linkRecords s (linksOf g) l
 
 abbrev registersIn : List ℕ → CircuitDag → List ℕ → Registered
-registersIn s g l = registersFrom s (registersOf g) (take (linksIn s g l .accepted - size g) l)
+registersIn s g l = registersFrom s (mapsOf g) (take (linksIn s g l .accepted - size g) l)
 
 -- what the records make together, by the parts
 pub record Together (s : List ℕ) (g : CircuitDag) (l : List ℕ) (x : LinkedRecords) (r : Registered) : Type 0 where
-  pub many : r .accepted < x .accepted → insertRecords s g l ≡ notLoaded (TooManyRegisters (getD l (r .accepted - size g) 0))
-  pub stops : (c : Refusal) → x .accepted ≤ r .accepted → x .answer ≡ Not-linked c → insertRecords s g l ≡ notLoaded c
-  pub whole : x .accepted ≤ r .accepted → x .answer ≡ Linked-all → insertRecords s g l ≡ record { answer = Done; graph = assembled (nodesAfter s (nodeLists g) l) x r }
+  pub many : (c : Refusal) → r .answer ≡ Refused c → insertRecords s g l ≡ notLoaded c
+  pub stops : (c : Refusal) → r .answer ≡ Done → x .answer ≡ Refused c → insertRecords s g l ≡ notLoaded c
+  pub whole : r .answer ≡ Done → x .answer ≡ Done → insertRecords s g l ≡ record { answer = Done; graph = assembled (nodesAfter s (nodeLists g) l) x r }
 
-pub not-both : {A : Type 0} (c : Refusal) → _≡_ {A = LinkAnswer} Linked-all (Not-linked c) → A
+pub not-both : {A : Type 0} (c : Refusal) → _≡_ {A = Outcome} Done (Refused c) → A
 not-both c e = let z : _≡_ {A = ℕ} 0 1 = cc in absurd (omega arith)
 
 take-none : (n : ℕ) → take {A = ℕ} n [] ≡ []
@@ -183,14 +170,14 @@ take-none zero = refl
 take-none (suc n) = refl
 
 module _ (s : List ℕ) (g : CircuitDag) where
-  none-registered : registersIn s g [] ≡ registersOf g
+  none-registered : registersIn s g [] ≡ mapsOf g
   unfolding registersFrom
   none-registered = rw (take-none (linksIn s g [] .accepted - size g)) refl
 
   together-none : Together s g [] (linksIn s g []) (registersIn s g [])
   unfolding linkRecords insertRecords nodesAfter
   together-none = record {
-    many = λ h. absurd (let z : registersIn s g [] .accepted ≡ size g = rw none-registered refl in let y : linksIn s g [] .accepted ≡ size g = refl in omega (arith, h, y, z));
+    many = λ c h. not-both c (rw none-registered at h);
     stops = λ c h e. not-both c e;
     whole = λ h e. rw none-registered refl;
   }
@@ -201,18 +188,15 @@ module _ (s : List ℕ) (g : CircuitDag) where
 
     -- a refusal by the links: nothing is left for the register maps
     stopped-here : (c : Refusal) → linksIn s g (i ∷ l) ≡ linksStopped (size g) c → insertAs nearAll i g b ≡ refused c g → Together s g (i ∷ l) (linksIn s g (i ∷ l)) (registersIn s g (i ∷ l))
-    unfolding insertRecords
+    unfolding insertRecords registersFrom
     stopped-here c e d = record {
-      many = λ h. absurd (not-fewer h);
-      stops = λ x h q. let z : Not-linked c ≡ Not-linked x = rw e at q in let y : c ≡ x = cc in rw (d, insertRecords, y) refl;
+      many = λ x h. not-both x (rw none-left at h);
+      stops = λ x h q. let z : Refused c ≡ Refused x = rw e at q in let y : c ≡ x = cc in rw (d, insertRecords, y) refl;
       whole = λ h q. not-both c (sym (rw e at q));
     }
       where
-        not-fewer : registersIn s g (i ∷ l) .accepted < linksIn s g (i ∷ l) .accepted → ⊥
-        not-fewer h =
-            let r = registers-rise s (take (linksIn s g (i ∷ l) .accepted - size g) (i ∷ l)) (registersOf g) in
-            let z : linksIn s g (i ∷ l) .accepted ≡ size g = rw e refl in
-            omega (arith, h, r, z)
+        none-left : registersIn s g (i ∷ l) ≡ mapsOf g
+        none-left = let z : linksIn s g (i ∷ l) .accepted - size g ≡ 0 = rw e (omega arith) in rw z refl
 
     module _ (free : leb 512 (size g) ≡ false) (keeps : recordRule b ≡ true) (room : edgesPass nearAll g b ≡ false) where
       abbrev h : CircuitDag
@@ -232,22 +216,20 @@ module _ (s : List ℕ) (g : CircuitDag) where
       above : size g < linksIn s g (i ∷ l) .accepted
       above = let r = links-between s l (linksOf h) .low in rw links-on (omega (arith, r, grown-size))
 
-      registers-first : registersIn s g (i ∷ l) ≡ registersFrom s (registersOf g) (i ∷ take (linksIn s g (i ∷ l) .accepted - (size g + 1)) l)
-      registers-first = ap (registersFrom s (registersOf g)) (taken (linksIn s g (i ∷ l) .accepted) above)
+      registers-first : registersIn s g (i ∷ l) ≡ registersFrom s (mapsOf g) (i ∷ take (linksIn s g (i ∷ l) .accepted - (size g + 1)) l)
+      registers-first = ap (registersFrom s (mapsOf g)) (taken (linksIn s g (i ∷ l) .accepted) above)
 
       -- a map passes 256 at this record
       passes-here : registersPass g b ≡ true → Together s g (i ∷ l) (linksIn s g (i ∷ l)) (registersIn s g (i ∷ l))
       unfolding insertRecords registersFrom
       passes-here p = record {
-        many = λ q. let z : registersIn s g (i ∷ l) .accepted - size g ≡ 0 = omega (arith, few) in rw (many i g b keeps free room p, insertRecords, z) refl;
-        stops = λ c q e. absurd (omega (arith, q, few, above));
-        whole = λ q e. absurd (omega (arith, q, few, above));
+        many = λ c q. let z : Refused (TooManyRegisters i) ≡ Refused c = rw stops-here at q in let y : TooManyRegisters i ≡ c = cc in rw (many i g b keeps free room p, insertRecords, y) refl;
+        stops = λ c q e. not-both (TooManyRegisters i) (sym (rw stops-here at q));
+        whole = λ q e. not-both (TooManyRegisters i) (sym (rw stops-here at q));
       }
         where
-          few : registersIn s g (i ∷ l) .accepted ≡ size g
-          few = let z : mapsPass (mapsAfter b (size g) (g .«first_registers») (g .«last_registers»)) ≡ true = sym (maps-pass i g b) ∙ p in
-              let y : registersFrom s (registersOf g) (i ∷ take (linksIn s g (i ∷ l) .accepted - (size g + 1)) l) ≡ stopped (size g) = rw (free, z) refl in
-              ap (λ (x : Registered). x .accepted) (registers-first ∙ y)
+          stops-here : registersIn s g (i ∷ l) ≡ mapsStopped (size g) (TooManyRegisters i)
+          stops-here = let z : mapsPass (mapsAfter b (size g) (g .«first_registers») (g .«last_registers»)) ≡ true = sym (maps-pass i g b) ∙ p in registers-first ∙ rw (free, z) refl
 
       -- the record is accepted
       module _ (fit : registersPass g b ≡ false) where
@@ -267,12 +249,9 @@ module _ (s : List ℕ) (g : CircuitDag) where
 
         together-on : Together s h l (linksIn s h l) (registersIn s h l) → Together s g (i ∷ l) (linksIn s g (i ∷ l)) (registersIn s g (i ∷ l))
         together-on t = record {
-          many = λ q.
-              let low = registers-rise s (take (linksIn s h l .accepted - size h) l) (registersOf h) in
-              let z : registersIn s g (i ∷ l) .accepted - size g ≡ suc (registersIn s h l .accepted - size h) = rw registers-on (omega (arith, low, grown-size)) in
-              inserts-on ∙ rw z (t .many (rw (registers-on, links-on) at q));
-          stops = λ c q e. inserts-on ∙ t .stops c (rw (registers-on, links-on) at q) (rw links-on at e);
-          whole = λ q e. inserts-on ∙ rw (registers-on, links-on, nodes-on) (t .whole (rw (registers-on, links-on) at q) (rw links-on at e));
+          many = λ c q. inserts-on ∙ t .many c (rw registers-on at q);
+          stops = λ c q e. inserts-on ∙ t .stops c (rw registers-on at q) (rw links-on at e);
+          whole = λ q e. inserts-on ∙ rw (registers-on, links-on, nodes-on) (t .whole (rw registers-on at q) (rw links-on at e));
         }
 
 pub together : (s : List ℕ) (l : List ℕ) (g : CircuitDag) → size g + length l ≤ 512 → Together s g l (linksIn s g l) (registersIn s g l)

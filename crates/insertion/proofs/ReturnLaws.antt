@@ -28,7 +28,7 @@ use Rattle.graph.proofs.SoundnessLaws.{all-join}
 use Rattle.queries.proofs.BufferLaws.{keep-append}
 use Rattle.insertion.specs.declared.Answer.{Answer}
 use Rattle.insertion.specs.declared.Answer.the-variants.{Node as IsNode, Refused as NotInserted}
-use Rattle.insertion.specs.declared.Outcome.the-variants.{Done, Refused}
+use Rattle.file.specs.declared.Outcome.the-variants.{Done, Refused}
 use Rattle.insertion.specs.declared.Inserted.{Inserted}
 use Rattle.insertion.specs.declared.Loaded.{Loaded}
 use Rattle.links.specs.Links.{nearAll}
@@ -36,8 +36,8 @@ use Rattle.insertion.specs.Insertion.{grown}
 use Rattle.insertion.specs.Limits.{insertAs, edgesPass, registersPass}
 use Rattle.insertion.specs.Load.{notLoaded, insertRecords}
 use Rattle.queries.proofs.CircuitLaws.{keep-split, place-here}
-use Rattle.insertion.specs.Conversion.{broken, convert, convertChecked, fromCircuit}
-use Rattle.insertion.specs.Circuits.{insertionOrder, recordOfNode, CircuitAgain, ReturnsCircuit}
+use Rattle.insertion.specs.Conversion.{insertionOrder, broken, convert, convertChecked, fromCircuit}
+use Rattle.insertion.specs.Circuits.{recordOfNode, CircuitAgain, ReturnsCircuit}
 
 -- ---- one insertion
 

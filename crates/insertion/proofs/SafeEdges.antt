@@ -4,7 +4,7 @@ use mathlib.Core.Path.{_≡_, refl, sym, _∙_, ap}
 use mathlib.Core.Bool.{Bool, true, false, not}
 use mathlib.Core.Logic.{_⊎_, inl, inr, ⊎-elim}
 use mathlib.Core.List.{List, [], _∷_, _++_, map}
-use Prim.Native.Nat.{ℕ, zero, suc, _+_, _-_, _≤_, _<_}
+use Prim.Native.Nat.{ℕ, _+_, _-_, _≤_, _<_}
 use native.Mathlib.Omega.{arith}
 use native.Mathlib.Decide.{decLt}
 use lib.Dec.{eqb, ltb}
@@ -17,7 +17,7 @@ use Rattle.file.specs.Lists.{distinct, member, isEmpty}
 use Rattle.graph.specs.declared.Edges.{Edges}
 use Rattle.graph.specs.Dag.{Edge}
 use Rattle.graph.proofs.BoolLaws.{clash-bool}
-use Rattle.graph.proofs.ListLaws.{at-any, distinct-at}
+use Rattle.graph.proofs.ListLaws.{map-at, at-any, distinct-at}
 use Rattle.links.specs.Links.{link, appended, withEdges}
 use Rattle.insertion.specs.Insertion.{placeAfter}
 use Rattle.insertion.proofs.SafeEnds.{Old}
@@ -119,11 +119,6 @@ module _ (k : ℕ) (new old : List ℕ) (fits : k ≤ length old) where
       length-append (take k old ++ new) (drop (length (take k old ++ new)) old)
       ∙ ap (λ (n : ℕ). length (take k old ++ new) + n) (length-drop (length (take k old ++ new)) old)
       ∙ (let e = head-length in omega arith)
-
-map-at : {A B : Type 0} (f : A → B) (l : List A) (i : ℕ) (a : A) (b : B) → i < length l → getD (map f l) i b ≡ f (getD l i a)
-map-at f [] i a b h = absurd (omega arith)
-map-at f (x ∷ l) zero a b h = refl
-map-at f (x ∷ l) (suc i) a b h = map-at f l i a b (omega arith)
 
 -- ---- the edges of the new node n, with the others u, behind the old ones
 

@@ -1,12 +1,12 @@
 -- Lists of insertions on the empty graph: for every list of record bytes, with no condition at all, each graph on the way is
 -- sound, so that refusal 11 never comes on it. Each graph on the way is `final` of a first part of the list,
--- so one statement on every list covers them. Then a load against the list of its file's records. Assumes nothing.
+-- so one statement on every list covers them. Then a load and a conversion against the list of their file's records. Assumes nothing.
 use mathlib.Core.Path.{_≡_}
 use mathlib.Core.Bool.{true}
-use mathlib.Core.List.{List, map}
+use mathlib.Core.List.{List, [], map}
 use Prim.Native.Nat.{ℕ, _<_}
-use lib.ListN.{take}
-use Rattle.file.specs.Lists.{upTo}
+use lib.ListN.{length, getD, take}
+use Rattle.file.specs.Lists.{keep, upTo}
 use Rattle.file.specs.Pairs.{countOf, checkFile, recordAt}
 use Rattle.file.specs.declared.FileCheck.the-variants.{Sound}
 use Rattle.file.specs.declared.Refusal.{Refusal}
@@ -14,11 +14,13 @@ use Rattle.file.specs.declared.Refusal.the-variants.{FileTooShort, TooManyRecor
 use Rattle.graph.specs.Soundness.{sound}
 use Rattle.insertion.specs.declared.Answer.the-variants.{Refused}
 use Rattle.insertion.specs.declared.Inserted.{Inserted}
-use Rattle.insertion.specs.declared.Outcome.the-variants.{Done}
+use Rattle.insertion.specs.declared.Loaded.{Loaded}
+use Rattle.file.specs.declared.Outcome.the-variants.{Done}
 use Rattle.links.specs.Links.{nearAll}
 use Rattle.insertion.specs.Limits.{accepts, insertAs, insertOf}
 use Rattle.insertion.specs.Load.{notLoaded, load}
 use Rattle.insertion.specs.Calls.{final}
+use Rattle.insertion.specs.Conversion.{broken, insertionOrder, fromCircuit}
 
 -- of the graph after the insertions of l: it is sound, an insertion on it goes by the rules from refusal 4 on, and none is
 -- refused 11
@@ -26,10 +28,6 @@ pub record SoundBuilt (l : List (List ℕ)) : Type 0 where
   pub sound : sound (final l) ≡ true
   pub never : (s : List ℕ) → insertOf (final l) s ≡ insertAs nearAll 0 (final l) s
   pub never-refused : (s : List ℕ) → insertOf (final l) s .answer ≡ Refused Unsound → ⊥
-
--- the file's records, in order
-abbrev pub recordsOf : List ℕ → List (List ℕ)
-recordsOf s = map (recordAt s) (upTo (countOf s))
 
 -- a refusal of a single insertion, "record (0 on insertion)", with the record's number in the file
 abbrev pub atRecord : ℕ → Refusal → Refusal
@@ -45,16 +43,30 @@ atRecord i NotInLayer = NotInLayer
 atRecord i ShortBuffer = ShortBuffer
 atRecord i Unsound = Unsound
 
--- the insertion of record i on the graph that the records before it leave
-abbrev pub stepOf : List ℕ → ℕ → Inserted
-stepOf s i = insertOf (final (take i (recordsOf s))) (recordAt s i)
+-- the file's records with these numbers
+abbrev pub recordsIn : List ℕ → List ℕ → List (List ℕ)
+recordsIn s order = map (recordAt s) order
 
--- A load is the list of its insertions: where a load is accepted, its graph is the one after inserting its records one by one, and
--- each of them is accepted; where a record is refused, the load gives that refusal with that record's number; and a file whose
--- records are all accepted is loaded
+-- the insertion of the k-th of them, counted from 0, on the graph that those before it leave
+abbrev pub stepIn : List ℕ → List ℕ → ℕ → Inserted
+stepIn s order k = insertOf (final (take k (recordsIn s order))) (recordAt s (getD order k 0))
+
+-- x is the list of insertions of the records with these numbers: where it is accepted, its graph is the one after inserting them one by one, and
+-- each of them is accepted; where one is refused, x is that refusal with that record's number; and where all are accepted, x is
+pub record Inserts (s order : List ℕ) (x : Loaded) : Type 0 where
+  pub done : x .answer ≡ Done → x .graph ≡ final (recordsIn s order)
+  pub each : x .answer ≡ Done → (k : ℕ) → k < length order → accepts (stepIn s order k .answer) ≡ true
+  pub refused : (k : ℕ) (r : Refusal) → k < length order → ((j : ℕ) → j < k → accepts (stepIn s order j .answer) ≡ true)
+      → stepIn s order k .answer ≡ Refused r → x ≡ notLoaded (atRecord (getD order k 0) r)
+  pub whole : ((j : ℕ) → j < length order → accepts (stepIn s order j .answer) ≡ true) → x .answer ≡ Done
+
+-- A load is the list of its records' insertions, in file order
 pub record LoadInserts (s : List ℕ) : Type 0 where
-  pub done : load s .answer ≡ Done → load s .graph ≡ final (recordsOf s)
-  pub each : load s .answer ≡ Done → (i : ℕ) → i < countOf s → accepts (stepOf s i .answer) ≡ true
-  pub refused : (i : ℕ) (r : Refusal) → checkFile s ≡ Sound → i < countOf s → ((j : ℕ) → j < i → accepts (stepOf s j .answer) ≡ true)
-      → stepOf s i .answer ≡ Refused r → load s ≡ notLoaded (atRecord i r)
-  pub whole : checkFile s ≡ Sound → ((j : ℕ) → j < countOf s → accepts (stepOf s j .answer) ≡ true) → load s .answer ≡ Done
+  pub sound : load s .answer ≡ Done → checkFile s ≡ Sound
+  pub inserts : checkFile s ≡ Sound → Inserts s (upTo (countOf s)) (load s)
+
+-- So is a conversion, kinds 1 to 5 first, once no record is broken: "later refusals come in the order of insertion and give the record's index in
+-- the file"
+pub record ConversionInserts (s : List ℕ) : Type 0 where
+  pub sound : fromCircuit s .answer ≡ Done → (checkFile s ≡ Sound) × (keep (broken s) (upTo (countOf s)) ≡ [])
+  pub inserts : checkFile s ≡ Sound → keep (broken s) (upTo (countOf s)) ≡ [] → Inserts s (insertionOrder s) (fromCircuit s)

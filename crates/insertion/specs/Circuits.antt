@@ -8,13 +8,9 @@ use Rattle.file.specs.Lists.{upTo}
 use Rattle.file.specs.Pairs.{countOf, recordAt}
 use Rattle.file.specs.Records.{kind, qubitForm, label}
 use Rattle.graph.specs.Dag.{Node, nodeAt}
-use Rattle.queries.specs.Conversion.{definitionsFirst, circuitOf}
-use Rattle.insertion.specs.declared.Outcome.the-variants.{Done}
-use Rattle.insertion.specs.Conversion.{fromCircuit}
-
--- the numbers of the records: "kinds 1 to 5 in file order, then kind 0" in file order
-abbrev pub insertionOrder : List ℕ → List ℕ
-insertionOrder s = definitionsFirst (λ i. kind (recordAt s i)) (upTo (countOf s))
+use Rattle.queries.specs.Conversion.{circuitOf}
+use Rattle.file.specs.declared.Outcome.the-variants.{Done}
+use Rattle.insertion.specs.Conversion.{insertionOrder, fromCircuit}
 
 -- the record whose node has the number v
 abbrev pub recordOfNode : List ℕ → ℕ → ℕ

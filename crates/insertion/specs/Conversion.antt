@@ -17,9 +17,13 @@ use Rattle.insertion.specs.Load.{notLoaded, insertRecords}
 abbrev pub broken : List ℕ → ℕ → Bool
 broken s i = not (recordRule (recordAt s i)) || front (recordAt s i)
 
--- "kinds 1 to 5 in file order, then kind 0, all at the back": after the numbers of the broken records
+-- the numbers of the records: "kinds 1 to 5 in file order, then kind 0" in file order
+abbrev pub insertionOrder : List ℕ → List ℕ
+insertionOrder s = definitionsFirst (λ i. kind (recordAt s i)) (upTo (countOf s))
+
+-- the records in that order, "all at the back", given the numbers of the broken ones
 abbrev pub convert : List ℕ → List ℕ → Loaded
-convert s [] = insertRecords s empty (definitionsFirst (λ i. kind (recordAt s i)) (upTo (countOf s)))
+convert s [] = insertRecords s empty (insertionOrder s)
 convert s (i ∷ l) = notLoaded (BadRecord i)
 
 -- the records of a file whose header and pairs keep their rules

@@ -1,5 +1,5 @@
 -- An insertion with its refusals: "Order: 11, .. then per record 4 to 7". Assumes nothing.
-use mathlib.Core.Bool.{Bool, true, false, cond, not, _||_}
+use mathlib.Core.Bool.{Bool, true, false, cond, not}
 use mathlib.Core.List.{List}
 use Prim.Native.Nat.{ℕ, _+_}
 use lib.Dec.{ltb, leb}
@@ -13,6 +13,7 @@ use Rattle.insertion.specs.declared.Answer.the-variants.{Node, Refused}
 use Rattle.insertion.specs.declared.Inserted.{Inserted}
 use Rattle.graph.specs.Dag.{node, size}
 use Rattle.links.specs.Links.{FarRule, nearAll}
+use Rattle.registers.specs.Registers.{mapsPass}
 use Rattle.insertion.specs.Insertion.{facing, linked, registered, grown}
 use Rattle.graph.specs.Soundness.{sound}
 
@@ -31,7 +32,7 @@ edgesPass rule g s = ltb 2048 (g .edges .count + length (linked rule (facing (fr
 
 -- "a register map would pass 256"
 abbrev pub registersPass : CircuitDag → List ℕ → Bool
-registersPass g s = let r = registered (facing (front s) g) s in ltb 256 (length (r .near)) || ltb 256 (length (r .far))
+registersPass g s = mapsPass (registered (facing (front s) g) s)
 
 -- the record s, which is record i of its file, on a sound graph: "then per record 4 to 7"
 unfoldable pub insertAs : FarRule → ℕ → CircuitDag → List ℕ → Inserted

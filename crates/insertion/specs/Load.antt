@@ -8,7 +8,7 @@ use Rattle.file.specs.declared.FileCheck.{FileCheck}
 use Rattle.file.specs.declared.FileCheck.the-variants.{Sound, Refused as BadFile}
 use Rattle.graph.specs.declared.CircuitDag.{CircuitDag}
 use Rattle.insertion.specs.declared.Answer.the-variants.{Node, Refused as NotInserted}
-use Rattle.insertion.specs.declared.Outcome.the-variants.{Done, Refused}
+use Rattle.file.specs.declared.Outcome.the-variants.{Done, Refused}
 use Rattle.insertion.specs.declared.Loaded.{Loaded}
 use Rattle.graph.specs.Dag.{empty}
 use Rattle.links.specs.Links.{nearAll}

@@ -10,11 +10,11 @@ use crate::Inserted;
 use crate::assembling::assemble;
 use crate::nodes::NodeLists;
 use crate::nodes::list_node;
+use file::Outcome;
 use file::Parsed;
 use file::Refusal;
 use graph::CircuitDag;
 use graph::NodeIndex;
-use links::LinkAnswer;
 
 // A refusal leaves the graph as it was.
 fn not_inserted(r: Refusal, g: CircuitDag) -> Inserted
@@ -55,12 +55,13 @@ fn insert_sound(g: CircuitDag, part: &[u8]) -> Inserted
     let qubits = s.qubits;
     let x = links::link_node(front, qubits, v, g.edges, g.first, g.last);
     let answer = x.answer;
-    if let LinkAnswer::Refused(cause) = answer {
+    if let Outcome::Refused(cause) = answer {
         return not_inserted(cause, g);
     }
     let r = registers::register_record(g.first_registers, g.last_registers, part, v);
-    if r.accepted == 0 {
-        return not_inserted(Refusal::TooManyRegisters(0), g);
+    let registered = r.answer;
+    if let Outcome::Refused(cause) = registered {
+        return not_inserted(cause, g);
     }
     Inserted {
         answer: Answer::Node(v),

@@ -6,6 +6,7 @@ mod loading;
 mod nodes;
 
 pub use conversion::from_circuit;
+use file::Outcome;
 use file::Refusal;
 use graph::CircuitDag;
 use graph::NodeIndex;
@@ -23,12 +24,7 @@ pub struct Inserted {
     pub graph: CircuitDag,
 }
 
-// What a load answers, beside the graph.
-pub enum Outcome {
-    Done,
-    Refused(Refusal),
-}
-
+// What a load answers, and the graph.
 pub struct Loaded {
     pub answer: Outcome,
     pub graph: CircuitDag,

@@ -8,13 +8,12 @@ ghost use Rattle.graph.specs.Dag.{empty};
 ghost use Rattle.insertion.specs.Load.{notLoaded, insertRecords};
 ghost use Rattle.insertion.specs.Load.{load as loadOf};
 use crate::Loaded;
-use crate::Outcome;
 use crate::assembling::assemble;
 use crate::nodes::list_nodes;
 use file::FileCheck;
+use file::Outcome;
 use file::Refusal;
 use graph::CircuitDag;
-use links::LinkAnswer;
 
 // A refused load gives the empty graph.
 pub(crate) fn not_loaded(r: Refusal) -> Loaded
@@ -39,8 +38,8 @@ pub(crate) fn file_order() -> [u16; 512]
     order
 }
 
-// The file's records with these numbers, one after the other, on the empty graph. A record that the links accept may still be refused
-// by the register maps, which come after them, but no earlier one.
+// The file's records with these numbers, one after the other, on the empty graph. The register maps see only the records before the links' first
+// refusal, so that theirs, if there is one, is the earlier.
 pub(crate) fn insert_in_order(file: &[u8], order: &[u16]) -> Loaded
     requires { ⌜ length (now order) ≤ 512 ⌝ }
     ensures { λ r. ⌜ r ≡ insertRecords (now (file .entry)) empty (now (order .entry)) ⌝ }
@@ -49,12 +48,12 @@ pub(crate) fn insert_in_order(file: &[u8], order: &[u16]) -> Loaded
     let start: usize = 0;
     let linked = x.accepted;
     let r = registers::register_records(file, &order[start..linked]);
-    let registered = r.accepted;
-    if registered < linked {
-        return not_loaded(Refusal::TooManyRegisters(file::to_index(order[registered])));
+    let registered = r.answer;
+    if let Outcome::Refused(cause) = registered {
+        return not_loaded(cause);
     }
     let answer = x.answer;
-    if let LinkAnswer::Refused(cause) = answer {
+    if let Outcome::Refused(cause) = answer {
         return not_loaded(cause);
     }
     Loaded {

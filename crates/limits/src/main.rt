@@ -1,10 +1,10 @@
 // The limits: 512 nodes at either end and the 513th refused, 2,048 edges and one more refused, 256 register entries and one more refused.
 ghost use Prim.Native.Nat.{_+_, _≤_, _<_};
+use file::Outcome;
 use file::Refusal;
 use file::RefusalValue;
 use graph::CircuitDag;
 use insertion::Answer;
-use insertion::Outcome;
 use libc::STDOUT_FILENO;
 
 // Byte b of gate k's mask. Plain: qubit 0. In layers of 8: row k of an 8 x 8 grid of qubits in one layer, column k in the next, so that a

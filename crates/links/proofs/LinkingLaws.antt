@@ -29,11 +29,12 @@ use Rattle.graph.proofs.BoolLaws.{clash-bool, not-true, and-l, and-r}
 use Rattle.graph.proofs.ListLaws.{all-here, all-fails, all-at, at-all}
 use Rattle.graph.proofs.SizeLaws.{EndSized}
 use Rattle.graph.proofs.SoundnessLaws.{named-all, named-node}
-use Rattle.links.specs.declared.LinkAnswer.the-variants.{Done, Refused}
+use Rattle.file.specs.declared.Outcome.{Outcome}
+use Rattle.file.specs.declared.Outcome.the-variants.{Done, Refused}
 use Rattle.links.specs.declared.LinkedRecords.{LinkedRecords}
 use Rattle.links.specs.Links.{Linked, link, linkAt, withEdges}
 use Rattle.links.specs.Ends.{EndState, endState, several, endOf, endStateOf, EndFits, JoinedEnds, JoinedEndsBy, EdgesAdded, LinkedRecord, RecordLinked}
-use Rattle.links.specs.Linking.{linksFrom, noLinks, linksStopped, linkRecord, linkRecords, linksFit, linkNode}
+use Rattle.links.specs.Linking.{linksFrom, noLinks, linksStopped, linkRecord, linkRecords, linksFit, linksKept, linkNode}
 use Rattle.links.proofs.JoinLaws.{fits-none}
 
 -- ---- `link_record`
@@ -114,14 +115,23 @@ fit-told n es first last h =
     let r = and-r (leb (es .count) 2048) _ h in
     (leb-true (es .count) 2048 (and-l (leb (es .count) 2048) _ h), and-l (allOf (ifPresent (λ u. ltb u n)) (named first)) _ r, and-r (allOf (ifPresent (λ u. ltb u n)) (named first)) _ r)
 
+-- what follows an answer that accepts
+pub when-done : (x : LinkedRecords) (g : Refusal → LinkedRecords) (a : Outcome) → a ≡ Done → elim a [ Done ↦ x | Refused r ↦ g r ] ≡ x
+when-done x g Done e = refl
+when-done x g (Refused r) e = let z : _≡_ {A = ℕ} 0 1 = cc in absurd (omega arith)
+
 module _ (f : Bool) (q : InvolvedQubits) (v : NodeIndex) (es : Edges) (first last : End) where
-  pub unfit-node : linksFit (v .0) es first last ≡ false → linksStopped (v .0) Unsound ≡ linkNode f q v es first last
+  pub unfit-node : linksFit (v .0) es first last ≡ false → linksKept v es first last Unsound ≡ linkNode f q v es first last
   unfolding linkNode
   unfit-node h = rw h refl
 
-  fit-node : linksFit (v .0) es first last ≡ true → linkRecord 0 f q (linksFrom (v .0) es first last) ≡ linkNode f q v es first last
+  node-done : linksFit (v .0) es first last ≡ true → (y : LinkedRecords) → linkRecord 0 f q (linksFrom (v .0) es first last) ≡ y → y .answer ≡ Done → y ≡ linkNode f q v es first last
   unfolding linkNode
-  fit-node h = rw h refl
+  node-done h y e d = rw h (sym e ∙ sym (when-done (linkRecord 0 f q (linksFrom (v .0) es first last)) (linksKept v es first last) _ (ap (λ (x : LinkedRecords). x .answer) e ∙ d)))
+
+  node-refused : linksFit (v .0) es first last ≡ true → (k : ℕ) (c : Refusal) → linkRecord 0 f q (linksFrom (v .0) es first last) ≡ linksStopped k c → linksKept v es first last c ≡ linkNode f q v es first last
+  unfolding linkNode
+  node-refused h k c e = rw (h, e) refl
 
 -- ---- one record as node k: 5, 6, or the ends and edges with it
 
@@ -151,8 +161,8 @@ module _ (i : ℕ) (f : Bool) (q : InvolvedQubits) (k : ℕ) (es : Edges) (first
 
 -- .. on the ends and edges of a graph, whose numbers are lent
 module _ (f : Bool) (q : InvolvedQubits) (v : NodeIndex) (es : Edges) (first last : End) (fit : linksFit (v .0) es first last ≡ true) where
-  pub node-full : 512 ≤ v .0 → linksStopped (v .0) TooManyNodes ≡ linkNode f q v es first last
-  node-full h = sym (nodes-full 0 f q (v .0) es first last h) ∙ fit-node f q v es first last fit
+  pub node-full : 512 ≤ v .0 → linksKept v es first last TooManyNodes ≡ linkNode f q v es first last
+  node-full h = node-refused f q v es first last fit (v .0) TooManyNodes (nodes-full 0 f q (v .0) es first last h)
 
   module _ (small : v .0 < 512) (a b : EndState) (ea : a ≡ endStateOf first) (eb : b ≡ endStateOf last) (r : LinkedRecord) (from to fn ln : List ℕ) (fb lb : List Bool)
       (l : RecordLinked f (v .0) (linkAt f q (v .0) (endOf (first .node) a (first .block)) (endOf (last .node) b (last .block))) es r from to fn ln fb lb) where
@@ -160,11 +170,11 @@ module _ (f : Bool) (q : InvolvedQubits) (v : NodeIndex) (es : Edges) (first las
     lent = subst (λ (x : Linked). RecordLinked f (v .0) x es r from to fn ln fb lb)
         (λ j. linkAt f q (v .0) (endOf (first .node) (ea j) (first .block)) (endOf (last .node) (eb j) (last .block))) l
 
-    pub node-stops : 2048 < r .edges → linksStopped (v .0) (TooManyEdges 0) ≡ linkNode f q v es first last
-    node-stops h = sym (edges-full 0 f q (v .0) es first last small r from to fn ln fb lb lent h) ∙ fit-node f q v es first last fit
+    pub node-stops : 2048 < r .edges → linksKept v es first last (TooManyEdges 0) ≡ linkNode f q v es first last
+    node-stops h = node-refused f q v es first last fit (v .0) (TooManyEdges 0) (edges-full 0 f q (v .0) es first last small r from to fn ln fb lb lent h)
 
     pub node-grows : r .edges ≤ 2048 → linksFrom (v .0 + 1) (record { count = r .edges; from = from; to = to }) (endOf fn (r .first) fb) (endOf ln (r .last) lb) ≡ linkNode f q v es first last
-    node-grows h = sym (grows 0 f q (v .0) es first last small r from to fn ln fb lb lent h) ∙ fit-node f q v es first last fit
+    node-grows h = node-done f q v es first last fit _ (grows 0 f q (v .0) es first last small r from to fn ln fb lb lent h) refl
 
 -- ---- `link_records`
 

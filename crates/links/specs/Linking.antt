@@ -15,7 +15,7 @@ use Rattle.graph.specs.declared.Edges.{Edges}
 use Rattle.graph.specs.declared.End.{End}
 use Rattle.graph.specs.Dag.{empty}
 use Rattle.graph.specs.Soundness.{named, ifPresent}
-use Rattle.links.specs.declared.LinkAnswer.the-variants.{Done, Refused}
+use Rattle.file.specs.declared.Outcome.the-variants.{Done, Refused}
 use Rattle.links.specs.declared.LinkedRecords.{LinkedRecords}
 use Rattle.links.specs.Links.{link, withEdges, linkAt}
 
@@ -45,10 +45,16 @@ linkRecords s x (i ∷ l) = let y = linkRecord i (front (recordAt s i)) (qubitsO
     cond (not (recordRule (recordAt s i))) (linksStopped (x .accepted) (BadRecord i))
     (elim (y .answer) [ Done ↦ linkRecords s y l | Refused r ↦ y ])
 
--- "every stored node number is below the node count", of the two ends; and "2,048 edges"
+-- the clauses on the ends and edges that linking goes by: "every stored node number is below the node count", of the maps, firstAll and lastAll;
+-- and "2,048 edges"
 abbrev pub linksFit : ℕ → Edges → End → End → Bool
 linksFit v edges first last = leb (edges .count) 2048 && (allOf (ifPresent (λ u. ltb u v)) (named first) && allOf (ifPresent (λ u. ltb u v)) (named last))
 
--- one record as node v, "record (0 on insertion)", on the ends and edges of a graph with v nodes
+-- .. and where a single record is refused: "left as it was"
+abbrev pub linksKept : NodeIndex → Edges → End → End → Refusal → LinkedRecords
+linksKept v edges first last r = record { accepted = v .0; answer = Refused r; edges = edges; first = first; last = last }
+
+-- one record as node v, "record (0 on insertion)", on the ends and edges of a graph with v nodes: 11 where they break these clauses, then 5, 6
 unfoldable pub linkNode : Bool → InvolvedQubits → NodeIndex → Edges → End → End → LinkedRecords
-linkNode f qubits v edges first last = cond (linksFit (v .0) edges first last) (linkRecord 0 f qubits (linksFrom (v .0) edges first last)) (linksStopped (v .0) Unsound)
+linkNode f qubits v edges first last = let y = linkRecord 0 f qubits (linksFrom (v .0) edges first last) in
+    cond (linksFit (v .0) edges first last) (elim (y .answer) [ Done ↦ y | Refused r ↦ linksKept v edges first last r ]) (linksKept v edges first last Unsound)

@@ -4,22 +4,16 @@ mod ends;
 mod records;
 
 pub use ends::qubit_count;
-use file::Refusal;
+use file::Outcome;
 use graph::Edges;
 use graph::End;
 pub use records::link_node;
 pub use records::link_records;
 
-// Whether all records were accepted.
-pub enum LinkAnswer {
-    Done,
-    Refused(Refusal),
-}
-
-// How many nodes there are, and the ends and edges that join them; those of the empty graph where a record is refused.
+// How many nodes there are, whether all records were accepted, and the ends and edges that join the nodes.
 pub struct LinkedRecords {
     pub accepted: usize,
-    pub answer: LinkAnswer,
+    pub answer: Outcome,
     pub edges: Edges,
     pub first: End,
     pub last: End,

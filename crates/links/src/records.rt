@@ -9,13 +9,13 @@ ghost use Rattle.file.specs.Lists.{allOf};
 ghost use Rattle.graph.specs.Soundness.{named, ifPresent};
 ghost use Rattle.links.specs.Ends.{endState, endOf, endStateOf, EndFits, RecordLinked};
 ghost use Rattle.links.specs.Links.{linkAt};
-ghost use Rattle.links.specs.Linking.{linksFrom, linksStopped, noLinks, linksFit, linkNode, linkRecords};
-use crate::LinkAnswer;
+ghost use Rattle.links.specs.Linking.{linksFrom, linksStopped, noLinks, linksFit, linksKept, linkNode, linkRecords};
 use crate::LinkedRecords;
 use crate::ends::ALL;
 use crate::ends::add_edges;
 use crate::ends::join_record;
 use file::InvolvedQubits;
+use file::Outcome;
 use file::Parsed;
 use file::Refusal;
 use graph::Edges;
@@ -67,10 +67,23 @@ fn links_stopped(k: usize, r: Refusal) -> LinkedRecords
 {
     LinkedRecords {
         accepted: k,
-        answer: LinkAnswer::Refused(r),
+        answer: Outcome::Refused(r),
         edges: graph::no_edges(),
         first: graph::no_end(),
         last: graph::no_end(),
+    }
+}
+
+// The refusal of a record as node v, which leaves the ends and edges as they were.
+fn links_kept(v: NodeIndex, edges: Edges, first: End, last: End, r: Refusal) -> LinkedRecords
+    ensures { λ x. ⌜ x ≡ linksKept v edges first last r ⌝ }
+{
+    LinkedRecords {
+        accepted: file::to_index(v.0),
+        answer: Outcome::Refused(r),
+        edges,
+        first,
+        last,
     }
 }
 
@@ -91,7 +104,7 @@ fn links_held(
 {
     LinkedRecords {
         accepted: k,
-        answer: LinkAnswer::Done,
+        answer: Outcome::Done,
         edges: Edges { count, from, to },
         first: End {
             node: first_node,
@@ -147,7 +160,7 @@ fn names_below(e: End, n: usize) -> bool
     true
 }
 
-// Whether they are the ends and edges of a graph with n nodes.
+// Whether the ends name only nodes below n, and there are no more edges than a graph may have.
 fn links_fit(n: usize, edges: Edges, first: End, last: End) -> bool
     ensures { λ r. ⌜ r ≡ linksFit n edges first last ⌝ }
 {
@@ -160,7 +173,8 @@ fn links_fit(n: usize, edges: Edges, first: End, last: End) -> bool
     false
 }
 
-// A record at this end with these qubits, as node v, on the ends and edges of a graph with v nodes: 11 where they are not such, 5, 6.
+// A record at this end with these qubits, as node v, on the ends and edges of a graph with v nodes: 11 where an end names another node or there
+// are too many edges, then 5, 6. A refusal leaves them as they were.
 pub fn link_node(
     front: bool,
     qubits: InvolvedQubits,
@@ -173,10 +187,10 @@ pub fn link_node(
 {
     let n = v.0 as usize;
     if !links_fit(n, edges, first, last) {
-        return links_stopped(n, Refusal::Unsound);
+        return links_kept(v, edges, first, last, Refusal::Unsound);
     }
     if 512 <= n {
-        return links_stopped(n, Refusal::TooManyNodes);
+        return links_kept(v, edges, first, last, Refusal::TooManyNodes);
     }
     let mut first_numbers = end_numbers(first);
     let mut last_numbers = end_numbers(last);
@@ -203,7 +217,7 @@ pub fn link_node(
         &mut others,
     );
     if 2048 < count {
-        return links_stopped(n, Refusal::TooManyEdges(0));
+        return links_kept(v, edges, first, last, Refusal::TooManyEdges(0));
     }
     links_held(
         n + 1,

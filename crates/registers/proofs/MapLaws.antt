@@ -7,20 +7,20 @@ use native.Mathlib.Numerals.{add-one}
 use lib.Dec.{ltb, leb}
 use lib.ListN.{length, getD, drop, replicate, drop-of-length-le}
 use lib.Seq.{drop-cons}
-use borrow.Author.Tests.{le-leb, lt-leb, le-ltb, ltb-false, leb-true, not-true, not-false}
+use borrow.Author.Tests.{le-leb, lt-leb, le-ltb, ltb-false, leb-true, not-false}
 use Rattle.file.specs.Lists.{allOf}
 use Rattle.file.specs.Pairs.{recordAt}
 use Rattle.file.specs.Records.{front, classicalOf}
 use Rattle.file.specs.declared.InvolvedClassical.{InvolvedClassical}
 use Rattle.file.specs.declared.InvolvedClassical.the-variants.{None}
+use Rattle.file.specs.declared.Refusal.the-variants.{TooManyNodes, TooManyRegisters, Unsound}
 use Rattle.graph.specs.declared.NodeIndex.{NodeIndex}
 use Rattle.graph.specs.declared.Registers.{Registers}
 use Rattle.graph.specs.Dag.{Entry, entriesOf, noRegisters}
 use Rattle.graph.specs.Soundness.{keysDistinct, registerMapRule}
 use Rattle.graph.proofs.BoolLaws.{and-l, and-r, or-l, or-r}
 use Rattle.graph.proofs.SizeLaws.{RegistersSized}
-use Rattle.registers.specs.declared.Registered.{Registered}
-use Rattle.registers.specs.Registers.{Maps, withEntries, registersAfter, mapsAfter, mapsPass, stored, stopped, registersFrom, registerRecords, registerRecord}
+use Rattle.registers.specs.Registers.{Maps, withEntries, registersAfter, mapsAfter, mapsPass, registersOf, stored, mapsStopped, mapsKept, registersFrom, registerRecords, registerRecord}
 use Rattle.registers.specs.RegisterMaps.{registers, Fits, EndsBecome, pass}
 use Rattle.registers.proofs.RegisterLaws.{ends-nothing, ends-fit, fits-none}
 
@@ -41,9 +41,8 @@ counts-facing false first last = or-swap (ltb 256 (last .count)) (ltb 256 (first
 counts-fit : (first last : Registers) → Fits first → Fits last → countsPass first last ≡ false
 counts-fit first last f g = rw (le-ltb _ _ (f .room), le-ltb _ _ (g .room)) refl
 
-same-maps : {k : ℕ} {first first′ last last′ : Registers} → first ≡ first′ → last ≡ last′
-    → _≡_ {A = Registered} (record { accepted = k; first = first; last = last }) (record { accepted = k; first = first′; last = last′ })
-same-maps {k} p q = λ i. record { accepted = k; first = p i; last = q i }
+same-maps : {k : ℕ} {first first′ last last′ : Registers} → first ≡ first′ → last ≡ last′ → registersOf k first last ≡ registersOf k first′ last′
+same-maps {k} p q = λ i. registersOf k (p i) (q i)
 
 -- the maps that the record s as node v left
 module _ (s : List ℕ) (v : ℕ) (first last first′ last′ : Registers) (become : EndsBecome (front s) (classicalOf s) s v first last first′ last′) where
@@ -53,11 +52,11 @@ module _ (s : List ℕ) (v : ℕ) (first last first′ last′ : Registers) (bec
 
   module _ (room : countsPass first′ last′ ≡ false) where
     kept : (f : Bool) (r : Maps) → cond f first′ last′ ≡ withEntries (cond f first last) (r .near) → cond f last′ first′ ≡ withEntries (cond f last first) (r .far)
-        → (k : ℕ) → record { accepted = k; first = first′; last = last′ } ≡ stored f k first last r
+        → (k : ℕ) → registersOf k first′ last′ ≡ stored f k first last r
     kept true r p q k = same-maps p q
     kept false r p q k = same-maps q p
 
-    pub is-stored : (k : ℕ) → record { accepted = k; first = first′; last = last′ } ≡ stored (front s) k first last (mapsAfter s v first last)
+    pub is-stored : (k : ℕ) → registersOf k first′ last′ ≡ stored (front s) k first last (mapsAfter s v first last)
     unfolding registersAfter
     is-stored k =
         let z : pass (cond (front s) first′ last′) (cond (front s) last′ first′) ≡ false = counts-facing (front s) first′ last′ ∙ room in
@@ -79,22 +78,22 @@ by-record s v first last first′ last′ f k p q e =
 pub record Registering (file order : List ℕ) (k : ℕ) (first last : Registers) : Type 0 where
   pub first-fits : Fits first
   pub last-fits : Fits last
-  pub same : registersFrom file (record { accepted = k; first = first; last = last }) (drop k order) ≡ registerRecords file order
+  pub same : registersFrom file (registersOf k first last) (drop k order) ≡ registerRecords file order
 
 pub begin : (file order : List ℕ) → Registering file order 0 (registers 0 (replicate 256 0) (replicate 256 0) (replicate 256 0)) (registers 0 (replicate 256 0) (replicate 256 0) (replicate 256 0))
 unfolding noRegisters
 begin file order = record { first-fits = fits-none; last-fits = fits-none; same = refl }
 
 module _ (file order : List ℕ) (k : ℕ) (first last : Registers) (before : Registering file order k first last) where
-  pub finish : length order ≤ k → record { accepted = k; first = first; last = last } ≡ registerRecords file order
+  pub finish : length order ≤ k → registersOf k first last ≡ registerRecords file order
   unfolding registersFrom
   finish h = let z : drop k order ≡ [] = drop-of-length-le order {i = k} h in rw z at (before .same)
 
   module _ (more : k < length order) where
-    turn : registersFrom file (record { accepted = k; first = first; last = last }) (getD order k 0 ∷ drop (k + 1) order) ≡ registerRecords file order
+    turn : registersFrom file (registersOf k first last) (getD order k 0 ∷ drop (k + 1) order) ≡ registerRecords file order
     turn = rw (add-one, ← drop-cons order k 0 more) (before .same)
 
-    pub over : 512 ≤ k → stopped k ≡ registerRecords file order
+    pub over : 512 ≤ k → mapsStopped k TooManyNodes ≡ registerRecords file order
     unfolding registersFrom
     over h = rw (le-leb 512 k h, registersFrom) at turn
 
@@ -103,9 +102,9 @@ module _ (file order : List ℕ) (k : ℕ) (first last : Registers) (before : Re
       here = part ∙ ap (recordAt file) is
 
       module _ (first′ last′ : Registers) (become : EndsBecome (front s) (classicalOf s) s k first last first′ last′) where
-        pub refused : countsPass first′ last′ ≡ true → stopped k ≡ registerRecords file order
+        pub refused : countsPass first′ last′ ≡ true → mapsStopped k (TooManyRegisters i) ≡ registerRecords file order
         unfolding registersFrom
-        refused h = rw (lt-leb 512 k free, ← here, passes s k first last first′ last′ become true h, registersFrom) at turn
+        refused h = ap (λ (j : ℕ). mapsStopped k (TooManyRegisters j)) is ∙ (rw (lt-leb 512 k free, ← here, passes s k first last first′ last′ become true h, registersFrom) at turn)
 
         pub again : countsPass first′ last′ ≡ false → Registering file order (k + 1) first′ last′
         unfolding registersFrom
@@ -148,21 +147,20 @@ module _ (first last : Registers) (v : NodeIndex) (b : Bool) (test : b ≡ (regi
       )
 
   module _ (s : List ℕ) where
-    -- the rule's answer by that test
-    answer : registerRecord first last s v ≡ cond (b && not (mapsPass (mapsAfter s (v .0) first last))) (stored (front s) 1 first last (mapsAfter s (v .0) first last)) (record { accepted = 0; first = first; last = last })
+    pub not-maps : not b ≡ true → mapsKept v first last Unsound ≡ registerRecord first last s v
     unfolding registerRecord
-    answer = by (registerMapRule (v .0) first) (registerMapRule (v .0) last) b (not (mapsPass (mapsAfter s (v .0) first last))) _ _ test
-      where
-        by : (p q b d : Bool) (x y : Registered) → b ≡ (p && q) → cond (p && q && d) x y ≡ cond (b && d) x y
-        by true q b d x y e = ap (λ (t : Bool). cond (t && d) x y) (sym e)
-        by false q b d x y e = ap (λ (t : Bool). cond (t && d) x y) (sym e)
+    not-maps t = rw (← test, t) refl
 
-    pub not-maps : not b ≡ true → record { accepted = 0; first = first; last = last } ≡ registerRecord first last s v
-    not-maps t = rw (answer, not-true b t) refl
+    module _ (t : not b ≡ false) where
+      pub no-node : 512 ≤ v .0 → mapsKept v first last TooManyNodes ≡ registerRecord first last s v
+      unfolding registerRecord
+      no-node h = rw (← test, t, le-leb 512 (v .0) h) refl
 
-    module _ (t : not b ≡ false) (first′ last′ : Registers) (become : EndsBecome (front s) (classicalOf s) s (v .0) first last first′ last′) where
-      pub too-many : countsPass first′ last′ ≡ true → record { accepted = 0; first = first; last = last } ≡ registerRecord first last s v
-      too-many h = rw (answer, not-false b t, passes s (v .0) first last first′ last′ become true h) refl
+      module _ (free : v .0 < 512) (first′ last′ : Registers) (become : EndsBecome (front s) (classicalOf s) s (v .0) first last first′ last′) where
+        pub too-many : countsPass first′ last′ ≡ true → mapsKept v first last (TooManyRegisters 0) ≡ registerRecord first last s v
+        unfolding registerRecord
+        too-many h = rw (← test, t, lt-leb 512 (v .0) free, passes s (v .0) first last first′ last′ become true h) refl
 
-      pub entered : countsPass first′ last′ ≡ false → record { accepted = 1; first = first′; last = last′ } ≡ registerRecord first last s v
-      entered h = rw (answer, not-false b t, passes s (v .0) first last first′ last′ become false h) (is-stored s (v .0) first last first′ last′ become h 1)
+        pub entered : countsPass first′ last′ ≡ false → (n : ℕ) → n ≡ v .0 → registersOf (n + 1) first′ last′ ≡ registerRecord first last s v
+        unfolding registerRecord
+        entered h n e = rw (← test, t, lt-leb 512 (v .0) free, passes s (v .0) first last first′ last′ become false h, e) (is-stored s (v .0) first last first′ last′ become h (v .0 + 1))

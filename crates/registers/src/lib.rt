@@ -2,13 +2,15 @@
 mod entries;
 mod maps;
 
+use file::Outcome;
 use graph::Registers;
 pub use maps::register_record;
 pub use maps::register_records;
 
-// The register maps after some records, and how many of these were accepted.
+// How many nodes there are, whether all records were accepted, and the register maps.
 pub struct Registered {
     pub accepted: usize,
+    pub answer: Outcome,
     pub first: Registers,
     pub last: Registers,
 }

@@ -1,13 +1,17 @@
-// The register maps of a list of records, and of one record on maps that are handed in. No other part of a graph is read.
+// The register maps of a list of records, and of one record on maps that are handed in. No other part of a graph is read, and the records are not
+// checked: a load has the links check them.
 ghost use mathlib.Core.Path.{_≡_};
 ghost use mathlib.Core.Bool.{_&&_, _||_};
 ghost use lib.Dec.{ltb};
 ghost use Rattle.graph.specs.Soundness.{registerMapRule};
-ghost use Rattle.registers.specs.Registers.{stopped as noMaps, registerRecords, registerRecord};
+ghost use Rattle.registers.specs.Registers.{registersOf, mapsStopped, mapsKept, registerRecords, registerRecord};
+ghost use Rattle.registers.specs.RegisterMaps.{registers};
 use crate::Registered;
 use crate::entries::EndCounts;
 use crate::entries::enter_record;
 use file::InvolvedClassical;
+use file::Outcome;
+use file::Refusal;
 use graph::NodeIndex;
 use graph::Registers;
 
@@ -18,18 +22,62 @@ fn maps_pass(m: EndCounts) -> bool
     256 < m.first || 256 < m.last
 }
 
-// The next record was not accepted: empty maps.
-fn no_maps(accepted: usize) -> Registered
-    ensures { λ r. ⌜ r ≡ noMaps accepted ⌝ }
+// The refusal of the record after k accepted ones.
+fn maps_stopped(k: usize, r: Refusal) -> Registered
+    ensures { λ x. ⌜ x ≡ mapsStopped k r ⌝ }
 {
     Registered {
-        accepted,
+        accepted: k,
+        answer: Outcome::Refused(r),
         first: graph::no_registers(),
         last: graph::no_registers(),
     }
 }
 
-// The file's records with these numbers, one after the other, as nodes 0, 1, 2, ..
+// The refusal of a record as node v, which leaves the maps as they were.
+fn maps_kept(v: NodeIndex, first: Registers, last: Registers, r: Refusal) -> Registered
+    ensures { λ x. ⌜ x ≡ mapsKept v first last r ⌝ }
+{
+    Registered {
+        accepted: file::to_index(v.0),
+        answer: Outcome::Refused(r),
+        first,
+        last,
+    }
+}
+
+// The maps of k nodes that the arrays and counts hold.
+fn maps_held(
+    k: usize,
+    counts: EndCounts,
+    first_name: [u8; 256],
+    first_index: [u16; 256],
+    first_node: [u16; 256],
+    last_name: [u8; 256],
+    last_index: [u16; 256],
+    last_node: [u16; 256],
+) -> Registered
+    ensures { λ r. ⌜ r ≡ registersOf k (registers (counts .first) «first_name» «first_index» «first_node») (registers (counts .last) «last_name» «last_index» «last_node») ⌝ }
+{
+    Registered {
+        accepted: k,
+        answer: Outcome::Done,
+        first: Registers {
+            count: counts.first,
+            name: first_name,
+            index: first_index,
+            node: first_node,
+        },
+        last: Registers {
+            count: counts.last,
+            name: last_name,
+            index: last_index,
+            node: last_node,
+        },
+    }
+}
+
+// The file's records with these numbers, one after the other, as nodes 0, 1, 2, ..: 5, 7.
 pub fn register_records(file: &[u8], order: &[u16]) -> Registered
     ensures { λ r. ⌜ r ≡ registerRecords (now (file .entry)) (now (order .entry)) ⌝ }
 {
@@ -46,9 +94,10 @@ pub fn register_records(file: &[u8], order: &[u16]) -> Registered
     let mut k: usize = 0;
     while k < order.len() {
         if 512 <= k {
-            return no_maps(k);
+            return maps_stopped(k, Refusal::TooManyNodes);
         }
-        let part = file::part_of(file, file::to_index(order[k]));
+        let i = file::to_index(order[k]);
+        let part = file::part_of(file, i);
         let classical = file::involved_classical(part);
         let v = NodeIndex(k as u16);
         let at = k;
@@ -74,29 +123,24 @@ pub fn register_records(file: &[u8], order: &[u16]) -> Registered
             last,
         );
         if maps_pass(m) {
-            return no_maps(at);
+            return maps_stopped(at, Refusal::TooManyRegisters(i));
         }
         first = m.first;
         last = m.last;
     }
-    Registered {
-        accepted: k,
-        first: Registers {
-            count: first,
-            name: first_name,
-            index: first_index,
-            node: first_node,
-        },
-        last: Registers {
-            count: last,
-            name: last_name,
-            index: last_index,
-            node: last_node,
-        },
-    }
+    maps_held(
+        k,
+        EndCounts { first, last },
+        first_name,
+        first_index,
+        first_node,
+        last_name,
+        last_index,
+        last_node,
+    )
 }
 
-// Whether a sound graph of v nodes may have these maps.
+// Whether both maps keep the clauses on a map of a graph with v nodes.
 fn maps_fit(first: Registers, last: Registers, v: NodeIndex) -> bool
     ensures { λ r. ⌜ r ≡ (registerMapRule (v .0) first && registerMapRule (v .0) last) ⌝ }
 {
@@ -107,16 +151,15 @@ fn maps_fit(first: Registers, last: Registers, v: NodeIndex) -> bool
     false
 }
 
-// One record as node v: maps that no sound graph of v nodes has, or that would pass 256, are returned as they came in.
+// One record as node v on the register maps of a graph with v nodes: 11, 5, 7. A refusal leaves them as they were.
 pub fn register_record(first: Registers, last: Registers, part: &[u8], v: NodeIndex) -> Registered
     ensures { λ r. ⌜ r ≡ registerRecord first last (now (part .entry)) v ⌝ }
 {
     if !maps_fit(first, last, v) {
-        return Registered {
-            accepted: 0,
-            first,
-            last,
-        };
+        return maps_kept(v, first, last, Refusal::Unsound);
+    }
+    if 512 <= v.0 {
+        return maps_kept(v, first, last, Refusal::TooManyNodes);
     }
     let mut first_name = first.name;
     let mut first_index = first.index;
@@ -143,25 +186,16 @@ pub fn register_record(first: Registers, last: Registers, part: &[u8], v: NodeIn
         last.count,
     );
     if maps_pass(m) {
-        return Registered {
-            accepted: 0,
-            first,
-            last,
-        };
+        return maps_kept(v, first, last, Refusal::TooManyRegisters(0));
     }
-    Registered {
-        accepted: 1,
-        first: Registers {
-            count: m.first,
-            name: first_name,
-            index: first_index,
-            node: first_node,
-        },
-        last: Registers {
-            count: m.last,
-            name: last_name,
-            index: last_index,
-            node: last_node,
-        },
-    }
+    maps_held(
+        file::to_index(v.0) + 1,
+        m,
+        first_name,
+        first_index,
+        first_node,
+        last_name,
+        last_index,
+        last_node,
+    )
 }

@@ -3,6 +3,7 @@
 ghost use mathlib.Core.Path.{_≡_};
 ghost use Prim.Native.Nat.{_+_, _<_, _≤_, min};
 ghost use lib.ListN.{length};
+use file::Outcome;
 use file::Refusal;
 use file::RefusalValue;
 use graph::CircuitDag;
@@ -11,7 +12,6 @@ use graph::End;
 use graph::NodeIndex;
 use graph::Registers;
 use insertion::Loaded;
-use insertion::Outcome;
 use libc::STDIN_FILENO;
 use libc::STDOUT_FILENO;
 use queries::Query;

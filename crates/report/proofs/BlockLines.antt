@@ -9,6 +9,7 @@ use lib.ListN.{length, getD, drop, replicate, length-replicate, length-append}
 use lib.Seq.{sets, sets-eq}
 use borrow.Author.Tests.{lt-ltb, eqb-true, eq-eqb}
 use Rattle.file.specs.Lists.{keep, upTo, member, members, anyOf, isEmpty, onto}
+use Rattle.file.specs.Pairs.{countOf}
 use Rattle.file.specs.declared.Refusal.{Refusal}
 use Rattle.graph.specs.declared.CircuitDag.{CircuitDag}
 use Rattle.graph.specs.Dag.{absent, size, hasEdge}
@@ -17,11 +18,11 @@ use Rattle.queries.specs.Reach.{blocking}
 use Rattle.graph.proofs.BoolLaws.{bool-ext, not-true}
 use Rattle.graph.proofs.ListLaws.{member-marked, member-upTo, member-keep}
 use Rattle.queries.proofs.ReachLaws.{keep-same}
-use Rattle.insertion.specs.declared.Outcome.{Outcome}
-use Rattle.insertion.specs.declared.Outcome.the-variants.{Done, Refused as NotLoaded}
+use Rattle.file.specs.declared.Outcome.{Outcome}
+use Rattle.file.specs.declared.Outcome.the-variants.{Done, Refused as NotLoaded}
 use Rattle.insertion.specs.declared.Loaded.{Loaded}
 use Rattle.insertion.specs.Load.{load}
-use Rattle.insertion.specs.Built.{recordsOf}
+use Rattle.insertion.specs.Built.{recordsIn}
 use Rattle.insertion.proofs.BuiltLaws.{sound-built}
 use Rattle.insertion.proofs.BuiltLoads.{load-inserts}
 use Rattle.walk.specs.declared.ParallelBlocks.{ParallelBlocks}
@@ -105,7 +106,7 @@ pub same-count : (j k : ℕ) → Blocks j ≡ Blocks k → j ≡ k
 same-count j k e = ap blocks-of e
 
 pub loaded-sound : (s : List ℕ) → load s .answer ≡ Done → sound (load s .graph) ≡ true
-loaded-sound s h = ap sound (load-inserts s .done h) ∙ sound-built (recordsOf s) .sound
+loaded-sound s h = let l = load-inserts s in ap sound (l .inserts (l .sound h) .done h) ∙ sound-built (recordsIn s (upTo (countOf s))) .sound
 
 -- a text in the array that starts as zeros
 pub text-onto : (t : List ℕ) → length t ≤ 5120 → sets (replicate 5120 0) 0 t ≡ onto t (replicate 5120 0)

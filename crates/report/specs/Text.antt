@@ -10,7 +10,7 @@ use Rattle.file.specs.declared.RefusalValue.{RefusalValue}
 use Rattle.file.specs.declared.RefusalValue.the-variants.{Nothing, At}
 use Rattle.file.specs.Refusals.{numberOf, valueOf}
 use Rattle.graph.specs.declared.CircuitDag.{CircuitDag}
-use Rattle.insertion.specs.declared.Outcome.the-variants.{Done, Refused}
+use Rattle.file.specs.declared.Outcome.the-variants.{Done, Refused}
 use Rattle.insertion.specs.declared.Loaded.{Loaded}
 use Rattle.insertion.specs.Load.{load}
 use Rattle.walk.specs.Blocks.{blocks}

@@ -10,11 +10,11 @@ ghost use Rattle.graph.specs.Soundness.{sound};
 ghost use Rattle.report.specs.Lines.{inBlock, linesBy};
 ghost use Rattle.report.specs.Text.{digits, nodesText, lineText, countText, blocksText, atText, refusedText, fileText, textOf};
 use crate::Text;
+use file::Outcome;
 use file::Refusal;
 use file::RefusalValue;
 use graph::CircuitDag;
 use graph::NodeIndex;
-use insertion::Outcome;
 use walk::BlockCount;
 
 // The character of a digit.

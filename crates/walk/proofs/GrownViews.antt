@@ -3,7 +3,7 @@ use mathlib.Core.Path.{_≡_, refl, sym, _∙_, ap}
 use mathlib.Core.Bool.{Bool, true, false, _&&_, _||_, and-false}
 use mathlib.Core.Logic.{⊎-elim}
 use mathlib.Core.List.{List, [], _∷_, _++_, map}
-use Prim.Native.Nat.{ℕ, zero, suc, _+_, _-_, _≤_, _<_}
+use Prim.Native.Nat.{ℕ, _+_, _-_, _≤_, _<_}
 use native.Mathlib.Omega.{arith}
 use native.Mathlib.Decide.{decLt}
 use lib.Dec.{eqb}
@@ -16,7 +16,7 @@ use Rattle.graph.specs.declared.End.{End}
 use Rattle.graph.specs.declared.CircuitDag.{CircuitDag}
 use Rattle.graph.specs.Dag.{Edge, edge, size, edgeAt, sameEdge, hasEdge}
 use Rattle.graph.proofs.BoolLaws.{bool-cases, bool-ext, and-intro, or-cases, or-inl, or-inr}
-use Rattle.graph.proofs.ListLaws.{any-here, any-later, any-at, at-any, any-upTo, upTo-any}
+use Rattle.graph.proofs.ListLaws.{map-at, any-here, any-later, any-at, at-any, any-upTo, upTo-any}
 use Rattle.links.specs.Links.{nearAll, link, linkBy, appended, withEdges}
 use Rattle.registers.specs.Registers.{withEntries}
 use Rattle.insertion.specs.Insertion.{facing, placeAfter, linked, registered, commutes, withCommuting, grown}
@@ -45,11 +45,6 @@ module _ (k : ℕ) (new old : List ℕ) (fits : k ≤ length old) where
       List·getD-append (take k old ++ new) (drop (length (take k old ++ new)) old) 0 (k + j) (omega (arith, head-length))
       ∙ ap (λ (n : ℕ). getD (take k old ++ new) (n + j) 0) (sym (length-take-le k old fits))
       ∙ getD-append-add (take k old) new j 0
-
-pub map-at : {A B : Type 0} (f : A → B) (l : List A) (i : ℕ) (a : A) (b : B) → i < length l → getD (map f l) i b ≡ f (getD l i a)
-map-at f [] i a b h = absurd (omega arith)
-map-at f (x ∷ l) zero a b h = refl
-map-at f (x ∷ l) (suc i) a b h = map-at f l i a b (omega arith)
 
 module _ (es : Edges) (new : List Edge) (ff : es .count ≤ length (es .from)) (ft : es .count ≤ length (es .to)) where
   abbrev es′ : Edges

@@ -2,7 +2,7 @@
 use mathlib.Core.Path.{_∙_, ap}
 use native.Mathlib.Omega.{arith}
 use Rattle.graph.specs.declared.CircuitDag.{CircuitDag}
-use Rattle.insertion.specs.declared.Outcome.the-variants.{Done}
+use Rattle.file.specs.declared.Outcome.the-variants.{Done}
 use Rattle.insertion.specs.declared.nodes.NodeLists.{NodeLists}
 use Rattle.insertion.specs.Parts.{assembled}
 use Rattle.insertion.proofs.LoadLaws.{linked-few, many, stops, done}
@@ -28,20 +28,17 @@ part-register-records-end c = omega (arith, linked-few _ _ _ (c .link-records .e
 register-records-requires : tie.Need-register-records-requires
 register-records-requires c κs = search needs
 
-mul-to-index : tie.Need-mul-to-index
-mul-to-index c = omega (arith, c .if1 .taken, linked-few _ _ _ (c .before .before .before .link-records .ensures), c .before .before .before .before .before .before .pre)
-
-shared-slice-read-to-index : tie.Need-shared-slice-read-to-index
-shared-slice-read-to-index c = omega (arith, c .before .if1 .taken, linked-few _ _ _ (c .before .before .before .before .link-records .ensures))
-
-to-index-requires : tie.Need-to-index-requires
-to-index-requires c κs = search needs
+enum-known-registered : tie.Need-enum-known-registered
+enum-known-registered c = search needs
 
 not-loaded-requires : tie.Need-not-loaded-requires
 not-loaded-requires c κs = search needs
 
 returns : tie.Need-returns
-returns c = c .not-loaded .ensures ∙ many _ _ _ (c .before .before .before .before .before .before .link-records .ensures) (c .before .before .before .before .before .before .before .before .before .pre) _ (c .before .before .before .before .register-records .ensures) (c .before .before .before .if1 .taken) _ (c .before .to-index .ensures)
+returns c = c .not-loaded .ensures ∙ many _ _ _ (c .before .before .before .before .before .before .link-records .ensures) (c .before .before .before .before .before .before .before .before .before .pre) _ (c .before .before .before .before .register-records .ensures) _ (c .before .before .registered .given .1)
+
+enum-told : tie.Need-enum-told
+enum-told c = search needs
 
 enum-known-answer : tie.Need-enum-known-answer
 enum-known-answer c = search needs
@@ -50,19 +47,21 @@ not-loaded-requires-2 : tie.Need-not-loaded-requires-2
 not-loaded-requires-2 c κs = search needs
 
 returns-2 : tie.Need-returns-2
-returns-2 c = c .not-loaded2 .ensures ∙ stops _ _ _ (c .before .before .before .before .before .before .before .link-records .ensures) (c .before .before .before .before .before .before .before .before .before .before .pre) _ (c .before .before .before .before .before .register-records .ensures) _ (c .before .before .before .before .if1 .left) (c .before .before .answer .given .1)
+returns-2 c = c .not-loaded2 .ensures ∙ stops _ _ _ (c .before .before .before .before .before .before .before .before .link-records .ensures) (c .before .before .before .before .before .before .before .before .before .before .before .pre) _ (c .before .before .before .before .before .before .register-records .ensures) _ (c .before .before .before .before .enum-told .given .1) (c .before .before .answer .given .1)
 
-enum-told : tie.Need-enum-told
-enum-told c = search needs
+enum-told-2 : tie.Need-enum-told-2
+enum-told-2 c = search needs
 
 list-nodes-requires : tie.Need-list-nodes-requires
-list-nodes-requires c κs = c .before .before .before .before .before .before .before .before .pre
+list-nodes-requires c κs = c .before .before .before .before .before .before .before .before .before .pre
 
 assemble-requires : tie.Need-assemble-requires
 assemble-requires c κs = search needs
 
 returns-3 : tie.Need-returns-3
-returns-3 c = let x = c .before .before .before .before .before .before .before .link-records .result in let r = c .before .before .before .before .before .register-records .result in ap (λ (g : CircuitDag). record { answer = Done; graph = g }) (c .assemble .ensures ∙ ap (λ (n : NodeLists). assembled n x r) (c .before .list-nodes .ensures)) ∙ done _ _ x (c .before .before .before .before .before .before .before .link-records .ensures) (c .before .before .before .before .before .before .before .before .before .before .pre) r (c .before .before .before .before .before .register-records .ensures) (c .before .before .before .before .if1 .left) (c .before .before .enum-told .given .1)
+returns-3 c = let x = c .before .before .before .before .before .before .before .before .link-records .result in let r = c .before .before .before .before .before .before .register-records .result in
+    ap (λ (g : CircuitDag). record { answer = Done; graph = g }) (c .assemble .ensures ∙ ap (λ (n : NodeLists). assembled n x r) (c .before .list-nodes .ensures))
+    ∙ done _ _ _ (c .before .before .before .before .before .before .before .before .link-records .ensures) (c .before .before .before .before .before .before .before .before .before .before .before .pre) _ (c .before .before .before .before .before .before .register-records .ensures) (c .before .before .before .before .enum-told .given .1) (c .before .before .enum-told2 .given .1)
 
 pub insert-in-order-spec : {M : Type 1} → statement M
 insert-in-order-spec =
@@ -74,15 +73,14 @@ insert-in-order-spec =
     part-register-records-start
     part-register-records-end
     register-records-requires
-    mul-to-index
-    shared-slice-read-to-index
-    to-index-requires
+    enum-known-registered
     not-loaded-requires
     returns
+    enum-told
     enum-known-answer
     not-loaded-requires-2
     returns-2
-    enum-told
+    enum-told-2
     list-nodes-requires
     assemble-requires
     returns-3)

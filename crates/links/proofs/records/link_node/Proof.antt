@@ -13,19 +13,19 @@ cast-n c = search needs
 links-fit-requires : tie.Need-links-fit-requires
 links-fit-requires c κs = tt
 
-links-stopped-requires : tie.Need-links-stopped-requires
-links-stopped-requires c κs = tt
+links-kept-requires : tie.Need-links-kept-requires
+links-kept-requires c κs = tt
 
 returns : tie.Need-returns
-returns c = let a = c .before .before .before .before .args in c .links-stopped .ensures ∙ unfit-node (a .front) (a .qubits) (a .v) (a .edges) (a .first) (a .last) (sym (c .before .before .links-fit .ensures) ∙ not-true _ (c .before .if1 .taken))
+returns c = let a = c .before .before .before .before .args in c .links-kept .ensures ∙ unfit-node (a .front) (a .qubits) (a .v) (a .edges) (a .first) (a .last) (sym (c .before .before .links-fit .ensures) ∙ not-true _ (c .before .if1 .taken))
 
-links-stopped-requires-2 : tie.Need-links-stopped-requires-2
-links-stopped-requires-2 c κs = tt
+links-kept-requires-2 : tie.Need-links-kept-requires-2
+links-kept-requires-2 c κs = tt
 
 returns-2 : tie.Need-returns-2
 returns-2 c =
     let a = c .before .before .before .before .before .args in
-    c .links-stopped2 .ensures ∙ node-full (a .front) (a .qubits) (a .v) (a .edges) (a .first) (a .last) (sym (c .before .before .before .links-fit .ensures) ∙ not-false _ (c .before .before .if1 .left)) (c .before .if2 .taken)
+    c .links-kept2 .ensures ∙ node-full (a .front) (a .qubits) (a .v) (a .edges) (a .first) (a .last) (sym (c .before .before .before .links-fit .ensures) ∙ not-false _ (c .before .before .if1 .left)) (c .before .if2 .taken)
 
 end-numbers-requires : tie.Need-end-numbers-requires
 end-numbers-requires c κs = tt
@@ -48,13 +48,13 @@ link-record-requires c κs =
       end-fits (a .v .0) (a .last) _ (c .before .before .before .before .before .before .before .before .before .before .before .before .before .before .before .end-numbers2 .ensures) (end-sized (a .last) _ (s .good .1 .1 .1 .1 .1 .0)) (f .2),
     )
 
-links-stopped-requires-3 : tie.Need-links-stopped-requires-3
-links-stopped-requires-3 c κs = tt
+links-kept-requires-3 : tie.Need-links-kept-requires-3
+links-kept-requires-3 c κs = tt
 
 returns-3 : tie.Need-returns-3
 returns-3 c =
     let a = c .before .before .before .before .before .before .before .before .before .before .before .before .before .before .before .before .before .before .before .before .before .before .before .before .args in
-    c .links-stopped3 .ensures ∙ node-stops (a .front) (a .qubits) (a .v) (a .edges) (a .first) (a .last) (sym (c .before .before .before .before .before .before .before .before .before .before .before .before .before .before .before .before .before .before .before .before .before .before .links-fit .ensures) ∙ not-false _ (c .before .before .before .before .before .before .before .before .before .before .before .before .before .before .before .before .before .before .before .before .before .if1 .left)) (c .before .before .before .before .before .before .before .before .before .before .before .before .before .before .before .before .before .before .before .before .if2 .left) _ _ (c .before .before .before .before .before .before .before .before .before .before .before .before .before .before .before .before .before .before .before .end-numbers .ensures) (c .before .before .before .before .before .before .before .before .before .before .before .before .before .before .before .before .before .before .end-numbers2 .ensures) _ _ _ _ _ _ _ (c .before .before .link-record .ensures .0) (c .before .if3 .taken)
+    c .links-kept3 .ensures ∙ node-stops (a .front) (a .qubits) (a .v) (a .edges) (a .first) (a .last) (sym (c .before .before .before .before .before .before .before .before .before .before .before .before .before .before .before .before .before .before .before .before .before .before .links-fit .ensures) ∙ not-false _ (c .before .before .before .before .before .before .before .before .before .before .before .before .before .before .before .before .before .before .before .before .before .if1 .left)) (c .before .before .before .before .before .before .before .before .before .before .before .before .before .before .before .before .before .before .before .before .if2 .left) _ _ (c .before .before .before .before .before .before .before .before .before .before .before .before .before .before .before .before .before .before .before .end-numbers .ensures) (c .before .before .before .before .before .before .before .before .before .before .before .before .before .before .before .before .before .before .end-numbers2 .ensures) _ _ _ _ _ _ _ (c .before .before .link-record .ensures .0) (c .before .if3 .taken)
 
 add-links-held : tie.Need-add-links-held
 add-links-held c = search needs
@@ -73,14 +73,14 @@ link-node-spec =
     (tie.spec
     cast-n
     links-fit-requires
-    links-stopped-requires
+    links-kept-requires
     returns
-    links-stopped-requires-2
+    links-kept-requires-2
     returns-2
     end-numbers-requires
     end-numbers-requires-2
     link-record-requires
-    links-stopped-requires-3
+    links-kept-requires-3
     returns-3
     add-links-held
     links-held-requires

@@ -20,11 +20,11 @@ abbrev μ-loop : tie.MeasureT-loop
 loop-holds : tie.Need-loop-holds Inv-loop μ-loop
 loop-holds c = begin _ _
 
-no-maps-requires : tie.Need-no-maps-requires Inv-loop μ-loop
-no-maps-requires c κs = tt
+maps-stopped-requires : tie.Need-maps-stopped-requires Inv-loop μ-loop
+maps-stopped-requires c κs = tt
 
 returns : tie.Need-returns Inv-loop μ-loop
-returns c = c .no-maps .ensures ∙ over _ _ _ _ _ (c .before .before .before .loop .inv) (c .before .before .loop-test .taken) (c .before .if1 .taken)
+returns c = c .maps-stopped .ensures ∙ over _ _ _ _ _ (c .before .before .before .loop .inv) (c .before .before .loop-test .taken) (c .before .if1 .taken)
 
 mul-to-index : tie.Need-mul-to-index Inv-loop μ-loop
 mul-to-index c = search needs
@@ -41,8 +41,8 @@ part-of-requires c κs = tt
 involved-classical-requires : tie.Need-involved-classical-requires Inv-loop μ-loop
 involved-classical-requires c κs = tt
 
-cast-t23 : tie.Need-cast-t23 Inv-loop μ-loop
-cast-t23 c = omega (arith, c .before .before .before .before .if1 .left)
+cast-t24 : tie.Need-cast-t24 Inv-loop μ-loop
+cast-t24 c = omega (arith, c .before .before .before .before .if1 .left)
 
 add-k : tie.Need-add-k Inv-loop μ-loop
 add-k c = omega (arith, c .before .before .before .before .if1 .left)
@@ -65,11 +65,11 @@ enter-record-requires c κs = let i = c .before .before .before .before .before 
 maps-pass-requires : tie.Need-maps-pass-requires Inv-loop μ-loop
 maps-pass-requires c κs = tt
 
-no-maps-requires-2 : tie.Need-no-maps-requires-2 Inv-loop μ-loop
-no-maps-requires-2 c κs = tt
+maps-stopped-requires-2 : tie.Need-maps-stopped-requires-2 Inv-loop μ-loop
+maps-stopped-requires-2 c κs = tt
 
 returns-2 : tie.Need-returns-2 Inv-loop μ-loop
-returns-2 c = c .no-maps2 .ensures ∙ refused _ _ _ _ _ (c .before .before .before .before .before .before .before .before .before .before .before .before .before .before .before .before .before .before .before .before .loop .inv) (c .before .before .before .before .before .before .before .before .before .before .before .before .before .before .before .before .before .before .before .loop-test .taken) (c .before .before .before .before .before .before .before .before .before .before .before .before .before .before .before .before .before .before .if1 .left) _ (c .before .before .before .before .before .before .before .before .before .before .before .before .before .before .before .before .to-index .ensures) _ (c .before .before .before .before .before .before .before .before .before .before .before .before .before .before .before .part-of .ensures .bytes) _ _ (by-record _ _ _ _ _ _ _ _ (c .before .before .before .before .before .before .before .before .before .before .before .before .is-front .ensures) (c .before .before .before .before .before .before .before .before .before .before .before .before .before .before .involved-classical .ensures) (c .before .before .before .enter-record .ensures)) (sym (c .before .before .maps-pass .ensures) ∙ c .before .if2 .taken)
+returns-2 c = c .maps-stopped2 .ensures ∙ refused _ _ _ _ _ (c .before .before .before .before .before .before .before .before .before .before .before .before .before .before .before .before .before .before .before .before .loop .inv) (c .before .before .before .before .before .before .before .before .before .before .before .before .before .before .before .before .before .before .before .loop-test .taken) (c .before .before .before .before .before .before .before .before .before .before .before .before .before .before .before .before .before .before .if1 .left) _ (c .before .before .before .before .before .before .before .before .before .before .before .before .before .before .before .before .to-index .ensures) _ (c .before .before .before .before .before .before .before .before .before .before .before .before .before .before .before .part-of .ensures .bytes) _ _ (by-record _ _ _ _ _ _ _ _ (c .before .before .before .before .before .before .before .before .before .before .before .before .is-front .ensures) (c .before .before .before .before .before .before .before .before .before .before .before .before .before .before .involved-classical .ensures) (c .before .before .before .enter-record .ensures)) (sym (c .before .before .maps-pass .ensures) ∙ c .before .if2 .taken)
 
 loop-less-2 : tie.Need-loop-less-2 Inv-loop μ-loop
 loop-less-2 c = omega (arith, c .before .before .before .before .before .before .before .before .before .before .before .before .before .before .before .before .before .before .loop-test .taken)
@@ -77,8 +77,11 @@ loop-less-2 c = omega (arith, c .before .before .before .before .before .before 
 loop-again-2 : tie.Need-loop-again-2 Inv-loop μ-loop
 loop-again-2 c = again _ _ _ _ _ (c .before .before .before .before .before .before .before .before .before .before .before .before .before .before .before .before .before .before .before .loop .inv) (c .before .before .before .before .before .before .before .before .before .before .before .before .before .before .before .before .before .before .loop-test .taken) (c .before .before .before .before .before .before .before .before .before .before .before .before .before .before .before .before .before .if1 .left) _ (c .before .before .before .before .before .before .before .before .before .before .before .before .before .before .before .to-index .ensures) _ (c .before .before .before .before .before .before .before .before .before .before .before .before .before .before .part-of .ensures .bytes) _ _ (by-record _ _ _ _ _ _ _ _ (c .before .before .before .before .before .before .before .before .before .before .before .is-front .ensures) (c .before .before .before .before .before .before .before .before .before .before .before .before .before .involved-classical .ensures) (c .before .before .enter-record .ensures)) (sym (c .before .maps-pass .ensures) ∙ c .if2 .left)
 
+maps-held-requires : tie.Need-maps-held-requires Inv-loop μ-loop
+maps-held-requires c κs = tt
+
 returns-3 : tie.Need-returns-3 Inv-loop μ-loop
-returns-3 c = finish _ _ _ _ _ (c .before .loop .inv) (c .loop-test .left)
+returns-3 c = c .maps-held .ensures ∙ finish _ _ _ _ _ (c .before .before .loop .inv) (c .before .loop-test .left)
 
 pub register-records-spec : {M : Type 1} → statement M
 register-records-spec =
@@ -87,14 +90,14 @@ register-records-spec =
     Inv-loop
     μ-loop
     loop-holds
-    no-maps-requires
+    maps-stopped-requires
     returns
     mul-to-index
     shared-slice-read-to-index
     to-index-requires
     part-of-requires
     involved-classical-requires
-    cast-t23
+    cast-t24
     add-k
     enum-told
     loop-less
@@ -102,8 +105,9 @@ register-records-spec =
     is-front-requires
     enter-record-requires
     maps-pass-requires
-    no-maps-requires-2
+    maps-stopped-requires-2
     returns-2
     loop-less-2
     loop-again-2
+    maps-held-requires
     returns-3)
