@@ -1,13 +1,14 @@
 -- A record: what its rule says, its exact length, and the answers of the parser's functions. Assumes nothing.
 use mathlib.Core.Path.{_≡_, refl, sym, ap}
-use mathlib.Core.Bool.{Bool, true, false, cond, not, _&&_}
+use mathlib.Core.Bool.{Bool, true, false, cond, _&&_}
 use mathlib.Core.List.{List}
-use mathlib.Core.Logic.{⊎-elim, _⊎_, inl, inr}
+use mathlib.Core.Logic.{⊎-elim, _⊎_}
 use Prim.Native.Nat.{ℕ, suc, _+_, _*_, _-_, _<_, _≤_}
 use native.Mathlib.Omega.{arith}
 use lib.Dec.{leb, eqb}
 use lib.ListN.{length, getD, List·getD-eq-default}
 use borrow.Author.Tests.{eqb-true, eqb-false, ne-eqb, le-leb, lt-leb, leb-true}
+use Rattle.file.proofs.BoolLaws.{bool-cases, clash-bool, both-true}
 use Rattle.file.specs.Pairs.{numberAt, recordAt}
 use Rattle.file.specs.Records
 use Rattle.file.proofs.PairLaws.{field-past}
@@ -18,25 +19,6 @@ use Rattle.file.specs.declared.InvolvedQubits.{InvolvedQubits}
 use Rattle.file.specs.declared.InvolvedClassical.{InvolvedClassical}
 use Rattle.file.specs.declared.InvolvedClassical.the-variants.{None, All, AllQubits, Set, Definition}
 use Rattle.file.specs.declared.Parsed.the-variants.{Record as Parses, Refused}
-
-bool-cases : (b : Bool) → (b ≡ true) ⊎ (b ≡ false)
-bool-cases true = inl refl
-bool-cases false = inr refl
-
-both-true : (a b : Bool) → (a && b) ≡ true → (a ≡ true) × (b ≡ true)
-both-true true b e = (refl, e)
-both-true false b e = let z : _≡_ {A = ℕ} 0 1 = cc in absurd (omega arith)
-
-clash : {A : Type 0} → false ≡ true → A
-clash e = let z : _≡_ {A = ℕ} 0 1 = cc in absurd (omega arith)
-
-pub was-false : (b : Bool) → not b ≡ true → b ≡ false
-was-false true e = clash e
-was-false false e = refl
-
-pub was-true : (b : Bool) → not b ≡ false → b ≡ true
-was-true true e = refl
-was-true false e = sym e
 
 -- ---- What a record that keeps its rule has
 
@@ -84,7 +66,7 @@ tail-length s e = ⊎-elim
     (λ (f : eqb (Records.registerForm s) 3 ≡ true). rw (a, b, d, f) (set-size s (rw (a, b, d, f) at e)))
     (λ (f : eqb (Records.registerForm s) 3 ≡ false). ⊎-elim
     (λ (g : eqb (Records.registerForm s) 4 ≡ true). rw (a, b, d, f) (eqb-true _ _ (rw (a, b, d, f, g) at e)))
-    (λ (g : eqb (Records.registerForm s) 4 ≡ false). clash (rw (a, b, d, f, g) at e))
+    (λ (g : eqb (Records.registerForm s) 4 ≡ false). absurd (clash-bool (rw (a, b, d, f, g) at e) refl))
     (bool-cases (eqb (Records.registerForm s) 4)))
     (bool-cases (eqb (Records.registerForm s) 3)))
     (bool-cases (eqb (Records.registerForm s) 2)))
@@ -145,7 +127,7 @@ register-kept s e = ⊎-elim
     (λ (f : eqb (Records.registerForm s) 3 ≡ true). rw (a, b, d, f) (sym (eqb-true _ _ f)))
     (λ (f : eqb (Records.registerForm s) 3 ≡ false). ⊎-elim
     (λ (g : eqb (Records.registerForm s) 4 ≡ true). rw (a, b, d, f) (sym (eqb-true _ _ g)))
-    (λ (g : eqb (Records.registerForm s) 4 ≡ false). clash (rw (a, b, d, f, g) at (rule s e .tail)))
+    (λ (g : eqb (Records.registerForm s) 4 ≡ false). absurd (clash-bool (rw (a, b, d, f, g) at (rule s e .tail)) refl))
     (bool-cases (eqb (Records.registerForm s) 4)))
     (bool-cases (eqb (Records.registerForm s) 3)))
     (bool-cases (eqb (Records.registerForm s) 2)))

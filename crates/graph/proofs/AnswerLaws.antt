@@ -9,13 +9,13 @@ use lib.Dec.{eqb, ltb, leb}
 use lib.IntN.{ℤ, pos, negsuc}
 use lib.Signed.{mag, nonNeg, ltZ}
 use lib.ListN.{length, getD, take}
-use borrow.Author.Tests.{ltb-true, lt-ltb, leb-true, le-leb, eqb-true, eq-eqb}
+use borrow.Author.Tests.{ltb-true, lt-ltb, leb-true, le-leb, eqb-true, eq-eqb, not-true as not-flip}
 use Rattle.file.specs.Lists.{allOf, distinct, upTo, members}
 use Rattle.graph.specs.declared.End.{End}
 use Rattle.graph.specs.declared.CircuitDag.{CircuitDag}
 use Rattle.graph.specs.Dag.{Edge, Entry, size, atQubit, edgeAt, edgesOf, placeOf, sameEdge}
 use Rattle.graph.specs.Soundness.{named, ifPresent, operationAt, samePlace, placeWithin, ascends, keysDistinct, sound}
-use Rattle.graph.proofs.BoolLaws.{bool-cases, clash-bool, not-true, and-l, and-r, and-intro, not-flip, flip-not}
+use Rattle.file.proofs.BoolLaws.{bool-cases, clash-bool, not-true, and-l, and-r, and-intro, flip-not}
 use Rattle.graph.proofs.ListLaws.{upTo-all, all-upTo, upTo-distinct, distinct-upTo, upTo-any, upTo-none, members-all, all-members}
 use Rattle.graph.proofs.SoundnessLaws.{Sound, NamesFit, sound-told, told-sound, and3, and3-intro, all-named, named-all, named-node, same-told, told-same, taken-ascends, taken-all, ascends-taken, all-taken, registers-told, told-entries, told-keys}
 use Rattle.graph.proofs.CheckLaws.{within, placesClause, edgeTest, edgesClause, fromAt, toAt, startTest, commutingClause, registersClause, targetsOf}

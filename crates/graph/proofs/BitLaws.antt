@@ -10,7 +10,7 @@ use lib.Dec.{eqb}
 use lib.ListN.{length, getD, set, replicate}
 use lib.Seq.{getD-set-same, getD-set-other}
 use borrow.Author.Tests.{eqb-true, eq-eqb}
-use Rattle.graph.proofs.BoolLaws.{clash-bool, split-lt}
+use Rattle.file.proofs.BoolLaws.{clash-bool, split-lt}
 use mathlib.Core.Logic.{⊎-elim}
 
 unfoldable bit : ℕ → ℕ → ℕ

@@ -13,13 +13,13 @@ use lib.ListN.{length, getD, set, take, replicate, length-set, length-replicate,
 use lib.Seq.{getD-set-same, getD-set-other}
 use mir.Syntax.{w16}
 use mir.Val.{toZ, ofZ}
-use borrow.Author.Tests.{ltb-true, lt-ltb, eqb-true, eq-eqb}
+use borrow.Author.Tests.{ltb-true, lt-ltb, eqb-true, eq-eqb, not-true as not-flip}
 use Rattle.file.specs.Lists.{anyOf, allOf, distinct, upTo, members}
 use Rattle.graph.specs.declared.Edges.{Edges}
 use Rattle.graph.specs.declared.Registers.{Registers}
 use Rattle.graph.specs.Dag.{Edge, Entry, edgeAt, entryAt, entry, sameEdge, sameKey}
 use Rattle.graph.specs.Soundness.{ifPresent, samePlace, ascends, keysDistinct}
-use Rattle.graph.proofs.BoolLaws.{clash-bool, not-true, not-false, bool-ext, and-l, and-r, and-intro, and-cases, or-cases, or-l, or-r, not-flip, flip-not, split-lt}
+use Rattle.file.proofs.BoolLaws.{clash-bool, not-true, not-false, bool-ext, and-l, and-r, and-intro, and-cases, or-cases, or-l, or-r, flip-not, split-lt}
 use Rattle.graph.proofs.BitLaws.{markAt, MarkedBits, bits-more, no-bits}
 use Rattle.graph.proofs.ListLaws.{at-any, at-none, at-all, all-at, all-here, all-fails, upTo-all, all-upTo, upTo-distinct, distinct-upTo, upTo-any, any-upTo, upTo-none, members-all, all-members}
 use Rattle.graph.proofs.PlaceLaws.{place-read}

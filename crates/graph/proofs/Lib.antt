@@ -1,4 +1,3 @@
-pub mod BoolLaws
 pub mod BitLaws
 pub mod ListLaws
 pub mod PlaceLaws

@@ -10,7 +10,7 @@ use lib.Dec.{eqb, ltb}
 use lib.ListN.{length, getD, length-map}
 use borrow.Author.Tests.{eqb-true, ltb-true, lt-ltb}
 use Rattle.file.specs.Lists.{anyOf, allOf, keep, distinct, countFrom, upTo, markedFrom, member, members}
-use Rattle.graph.proofs.BoolLaws.{bool-cases, clash-bool, not-true, not-false, bool-ext, eqb-same, and-l, and-r, and-intro, or-inl, or-inr}
+use Rattle.file.proofs.BoolLaws.{bool-cases, clash-bool, not-true, not-false, bool-ext, eqb-same, and-l, and-r, and-intro, or-inl, or-inr}
 
 -- ---- one entry at the front
 
@@ -38,6 +38,15 @@ module _ {A : Type 0} where
   pub distinct-fails : (s : A → A → Bool) (x : A) (l : List A) → anyOf (s x) l ≡ true → distinct s (x ∷ l) ≡ false
   unfolding distinct
   distinct-fails s x l e = rw (e, distinct)
+
+  pub distinct-more : (s : A → A → Bool) (x : A) (l : List A) → anyOf (s x) l ≡ false → distinct s l ≡ true → distinct s (x ∷ l) ≡ true
+  distinct-more s x l e h = distinct-here s x l e ∙ h
+
+  pub distinct-first : (s : A → A → Bool) (x : A) (l : List A) → distinct s (x ∷ l) ≡ true → anyOf (s x) l ≡ false
+  distinct-first s x l h = not-true (λ e. clash-bool h (distinct-fails s x l e))
+
+  pub distinct-rest : (s : A → A → Bool) (x : A) (l : List A) → distinct s (x ∷ l) ≡ true → distinct s l ≡ true
+  distinct-rest s x l h = sym (distinct-here s x l (distinct-first s x l h)) ∙ h
 
   -- ---- some entry passes
 
@@ -84,11 +93,9 @@ module _ {A : Type 0} where
   distinct-at s [] d h i j a b = absurd (omega arith)
   distinct-at s (x ∷ l) d h i zero a b = absurd (omega arith)
   distinct-at s (x ∷ l) d h zero (suc j) a b =
-      let t : anyOf (s x) l ≡ false = not-true (λ e. clash-bool h (distinct-fails s x l e)) in
-      none-at (s x) l d t j (omega arith)
+      none-at (s x) l d (distinct-first s x l h) j (omega arith)
   distinct-at s (x ∷ l) d h (suc i) (suc j) a b =
-      let t : anyOf (s x) l ≡ false = not-true (λ e. clash-bool h (distinct-fails s x l e)) in
-      distinct-at s l d (sym (distinct-here s x l t) ∙ h) i j (omega arith) (omega arith)
+      distinct-at s l d (distinct-rest s x l h) i j (omega arith) (omega arith)
 
   pub at-distinct : (s : A → A → Bool) (l : List A) (d : A)
       → ((i j : ℕ) → i < j → j < length l → s (getD l i d) (getD l j d) ≡ false) → distinct s l ≡ true
@@ -126,7 +133,7 @@ module _ {A : Type 0} where
   pub length-upTo : (f : ℕ → A) (n : ℕ) → length (map f (upTo n)) ≡ n
   length-upTo f n = length-map (upTo n) f ∙ length-countFrom n 0
 
-  countFrom-at : (f : ℕ → A) (n k i : ℕ) (d : A) → i < n → getD (map f (countFrom n k)) i d ≡ f (k + i)
+  pub countFrom-at : (f : ℕ → A) (n k i : ℕ) (d : A) → i < n → getD (map f (countFrom n k)) i d ≡ f (k + i)
   unfolding countFrom
   countFrom-at f zero k i d h = absurd (omega arith)
   countFrom-at f (suc n) k zero d h = let z : k ≡ k + 0 = omega arith in ap f z

@@ -9,7 +9,7 @@ use mir.Syntax.{w16}
 use mir.Val.{SFits, toZ, ofZ}
 use mir.ValLaws.{toZ-ofZ, toZ-pos}
 use borrow.Author.Tests.{ltb-true}
-use Rattle.graph.proofs.BoolLaws.{clash-bool}
+use Rattle.file.proofs.BoolLaws.{clash-bool}
 
 -- a place below 0
 pub record Front (z : ℤ) : Type 0 where

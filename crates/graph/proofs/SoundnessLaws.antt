@@ -12,14 +12,14 @@ use lib.IntN.{ℤ, pos, negsuc}
 use lib.Signed.{ltZ}
 use lib.ListN.{length, getD, take, length-take, List·getD-eq-default}
 use lib.Seq.{getD-take}
-use borrow.Author.Tests.{ltb-true, lt-ltb, leb-true, le-leb, eqb-true, eq-eqb, ne-eqb}
+use borrow.Author.Tests.{ltb-true, lt-ltb, leb-true, le-leb, eqb-true, eq-eqb, ne-eqb, not-true as not-flip}
 use Rattle.file.specs.Lists.{anyOf, allOf, distinct, countFrom, upTo, markedFrom, members}
 use Rattle.graph.specs.declared.End.{End}
 use Rattle.graph.specs.declared.Registers.{Registers}
 use Rattle.graph.specs.declared.CircuitDag.{CircuitDag}
 use Rattle.graph.specs.Dag.{noEnd, noRegisters, empty, Node, Edge, Entry, absent, present, size, atQubit, nodeAt, nodesOf, edgesOf, edgeAt, entryAt, entriesOf, commutingOf, placeOf, sameEdge, sameKey}
 use Rattle.graph.specs.Soundness.{countsFit, endsAddUp, named, ifPresent, numbersBelow, operationAt, nameOperations, samePlace, placeWithin, placesRule, ascends, commutingAscends, keysDistinct, edgesRule, firstBlockRule, sound}
-use Rattle.graph.proofs.BoolLaws.{bool-cases, clash-bool, not-true, and-l, and-r, and-intro, or-cases, or-inl, or-inr, not-flip, flip-not}
+use Rattle.file.proofs.BoolLaws.{bool-cases, clash-bool, not-true, and-l, and-r, and-intro, or-cases, or-inl, or-inr, flip-not}
 use Rattle.graph.proofs.ListLaws.{all-at, at-all, all-append, all-upTo, upTo-all, distinct-upTo, upTo-distinct, upTo-any, upTo-none, members-all, all-members}
 
 -- ---- the facts

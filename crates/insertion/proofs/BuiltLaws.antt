@@ -1,8 +1,8 @@
 -- Every graph that is built is sound (specs/Built.antt). Soundness alone is not kept by an insertion: what is kept is `Safe`,
 -- which has besides that no node of the last block has an edge out, and that where one end names a node the other end's block
 -- is not empty. It is stated as seen from either end, so that one argument serves back and front. Assumes nothing.
-use mathlib.Core.Path.{_≡_, refl, _∙_, ap, subst}
-use mathlib.Core.Bool.{Bool, true, false, cond, not, _||_}
+use mathlib.Core.Path.{_≡_, refl, _∙_, ap, subst, sym}
+use mathlib.Core.Bool.{Bool, true, false, cond, not, _||_, Bool·not-not}
 use mathlib.Core.Logic.{inl, inr}
 use mathlib.Core.List.{List, [], _∷_, map}
 use Prim.Native.Nat.{ℕ, _+_, _≤_, _<_}
@@ -10,17 +10,16 @@ use native.Mathlib.Omega.{arith}
 use lib.Dec.{ltb, leb}
 use lib.IntN.{ℤ, pos, negsuc}
 use lib.ListN.{length, length-replicate}
-use borrow.Author.Tests.{ltb-false, leb-false}
+use borrow.Author.Tests.{ltb-false, leb-false, not-false as told-true}
 use Rattle.file.specs.Lists.{allOf, countFrom}
 use Rattle.file.specs.Records.{front, kind, qubitForm, label, recordRule, qubitsOf}
-use Rattle.file.proofs.RecordLaws.{was-true}
 use Rattle.file.specs.declared.Refusal.the-variants.{BadRecord, TooManyNodes, TooManyEdges, TooManyRegisters, Unsound}
 use Rattle.graph.specs.declared.End.{End}
 use Rattle.graph.specs.declared.Registers.{Registers}
 use Rattle.graph.specs.declared.CircuitDag.{CircuitDag}
 use Rattle.graph.specs.Dag.{absent, size, node, noEnd, noRegisters, empty, placeOf}
 use Rattle.graph.specs.Soundness.{placeWithin, sound}
-use Rattle.graph.proofs.BoolLaws.{clash-bool}
+use Rattle.file.proofs.BoolLaws.{clash-bool, or-l, or-r}
 use Rattle.graph.proofs.SoundnessLaws.{NamesFit, RegistersFit, registers-told, told-sound}
 use Rattle.insertion.specs.declared.Answer.the-variants.{Node, Refused}
 use Rattle.insertion.specs.declared.Inserted.{Inserted}
@@ -32,7 +31,6 @@ use Rattle.insertion.specs.Limits.{refused, edgesPass, registersPass, in
 use Rattle.insertion.specs.Calls.{graphAfter, final}
 use Rattle.insertion.specs.Built.{SoundBuilt}
 use Rattle.links.proofs.LinkLaws.{others-distinct}
-use Rattle.registers.proofs.RegisterLists.{or-l, or-r}
 use Rattle.registers.proofs.RegisterLaws.{fits-none}
 use Rattle.insertion.proofs.SafeEnds.{all-same, Side, Joins, named-old, near-side, far-side, joins-by}
 use Rattle.insertion.proofs.SafeEdges.{between, lies, link-rises, EdgesSafe, Meets, meets-below, near-meets, far-meets, edges-more}
@@ -64,7 +62,7 @@ mirror b h H = record {
   };
   edges = H .edges;
   near = H .far;
-  far = subst (λ (c : Bool). Side (size h) (operatesAt (h .nodes)) (Meets c (h .edges)) (h .last) (h .first)) (twice b) (H .near);
+  far = subst (λ (c : Bool). Side (size h) (operatesAt (h .nodes)) (Meets c (h .edges)) (h .last) (h .first)) (sym (Bool·not-not b)) (H .near);
   commuting = H .commuting;
   near-registers = H .far-registers;
   far-registers = H .near-registers;
@@ -73,10 +71,6 @@ mirror b h H = record {
     lies-mirror : (b : Bool) (near far : ℕ) (p : ℤ) → lies (not b) far near p ≡ lies b near far p
     lies-mirror true near far p = refl
     lies-mirror false near far p = refl
-
-    twice : (b : Bool) → b ≡ not (not b)
-    twice true = refl
-    twice false = refl
 
 -- turned to an end ..
 turned : (b : Bool) (g : CircuitDag) → Safe false g → Safe b (facing b g)
@@ -294,7 +288,7 @@ not-passed : (b : Bool) (g : CircuitDag) (s : List ℕ) → not (recordRule s) �
     → ltb 2048 (g .edges .count + length (linked nearAll (facing b g) s .others)) ≡ false
     → (ltb 256 (length (registered (facing b g) s .near)) || ltb 256 (length (registered (facing b g) s .far))) ≡ false → Accepted (facing b g) s
 not-passed b g s k r e m = record {
-  keeps = was-true (recordRule s) k;
+  keeps = told-true (recordRule s) k;
   room = size-in b;
   edges = edges-in b (ltb-false _ _ e);
   near = ltb-false _ _ (or-l (ltb 256 (length (registered (facing b g) s .near))) (ltb 256 (length (registered (facing b g) s .far))) m);

@@ -16,7 +16,7 @@ use Rattle.graph.specs.declared.NodeIndex.{NodeIndex}
 use Rattle.graph.specs.declared.CircuitDag.{CircuitDag}
 use Rattle.graph.specs.Dag.{Edge, Entry, node, size, edgesOf, commutingOf, entriesOf}
 use Rattle.graph.specs.Soundness.{sound, named, ifPresent, registerMapRule}
-use Rattle.graph.proofs.BoolLaws.{and-l, and-r}
+use Rattle.file.proofs.BoolLaws.{and-l, and-r}
 use Rattle.graph.proofs.SizeLaws.{DagSized}
 use Rattle.graph.proofs.SoundnessLaws.{Sound, sound-told, sound-clauses, all-left, all-right}
 use Rattle.file.specs.declared.Outcome.{Outcome}

@@ -10,7 +10,7 @@ use lib.IntN.{ℤ, pos}
 use lib.Signed.{ltZ}
 use lib.ListN.{length, getD, set, length-append, length-set, length-replicate, List·getD-append}
 use lib.Seq.{getD-append-seam, getD-append-add, getD-set-same, getD-set-other, ext-getD}
-use borrow.Author.Tests.{lt-ltb, leb-false}
+use borrow.Author.Tests.{lt-ltb, leb-false, not-true as not-flip}
 use Rattle.file.specs.Lists.{allOf, keep, countFrom, upTo}
 use Rattle.file.specs.Pairs.{countOf, checkFile, recordAt}
 use Rattle.file.specs.Records.{front, kind, qubitForm, label, recordRule}
@@ -22,7 +22,7 @@ use Rattle.graph.specs.declared.CircuitDag.{CircuitDag}
 use Rattle.graph.specs.declared.Nodes.{Nodes}
 use Rattle.graph.specs.Dag.{empty, size, nodeAt, placeOf, node}
 use Rattle.queries.specs.Conversion.{placeIn, sortByPlace, circuitOf}
-use Rattle.graph.proofs.BoolLaws.{bool-cases, clash-bool, not-false, not-flip, split-lt}
+use Rattle.file.proofs.BoolLaws.{bool-cases, clash-bool, not-false, split-lt}
 use Rattle.graph.proofs.ListLaws.{all-here, all-fails, all-at, length-countFrom, length-upTo, upTo-at}
 use Rattle.graph.proofs.SoundnessLaws.{all-join}
 use Rattle.queries.proofs.BufferLaws.{keep-append}

@@ -16,7 +16,7 @@ use borrow.Author.Tests.{lt-ltb, ltb-true, eq-eqb}
 use Rattle.file.specs.Lists.{distinct, member, isEmpty}
 use Rattle.graph.specs.declared.Edges.{Edges}
 use Rattle.graph.specs.Dag.{Edge}
-use Rattle.graph.proofs.BoolLaws.{clash-bool}
+use Rattle.file.proofs.BoolLaws.{clash-bool}
 use Rattle.graph.proofs.ListLaws.{map-at, at-any, distinct-at}
 use Rattle.links.specs.Links.{link, appended, withEdges}
 use Rattle.insertion.specs.Insertion.{placeAfter}
@@ -102,13 +102,13 @@ module _ (k : ℕ) (new old : List ℕ) (fits : k ≤ length old) where
   head-length : length (take k old ++ new) ≡ k + length new
   head-length = length-append (take k old) new ∙ ap (λ (n : ℕ). n + length new) (length-take-le k old fits)
 
-  appended-old : (i : ℕ) → i < k → getD (appended k new old) i 0 ≡ getD old i 0
+  pub appended-old : (i : ℕ) → i < k → getD (appended k new old) i 0 ≡ getD old i 0
   appended-old i h =
       List·getD-append (take k old ++ new) (drop (length (take k old ++ new)) old) 0 i (omega (arith, head-length))
       ∙ List·getD-append (take k old) new 0 i (omega (arith, length-take-le k old fits))
       ∙ getD-take k old i 0 h
 
-  appended-new : (j : ℕ) → j < length new → getD (appended k new old) (k + j) 0 ≡ getD new j 0
+  pub appended-new : (j : ℕ) → j < length new → getD (appended k new old) (k + j) 0 ≡ getD new j 0
   appended-new j h =
       List·getD-append (take k old ++ new) (drop (length (take k old ++ new)) old) 0 (k + j) (omega (arith, head-length))
       ∙ ap (λ (n : ℕ). getD (take k old ++ new) (n + j) 0) (sym (length-take-le k old fits))

@@ -17,7 +17,7 @@ use Rattle.file.specs.declared.InvolvedQubits.the-variants.{None, All, Set}
 use Rattle.file.specs.Records.{formOf}
 use Rattle.graph.specs.declared.End.{End}
 use Rattle.graph.specs.Dag.{absent, present, orElse, node, atQubit}
-use Rattle.graph.proofs.BoolLaws.{bool-cases, clash-bool, not-true, not-false, or-cases, eqb-same}
+use Rattle.file.proofs.BoolLaws.{bool-cases, clash-bool, not-true, not-false, or-cases, eqb-same}
 use Rattle.graph.proofs.ListLaws.{any-here, any-later, any-append, any-at, at-any, all-at}
 use Rattle.links.specs.Links.{Linked, nearAll, source, noQubit, qubits, linkQubits, joinFar, linkSet, mapped, linkAll, linkBy}
 use Rattle.links.proofs.LinkLaws.{addPresent, linkOne, others-below}

@@ -18,7 +18,7 @@ use Rattle.graph.specs.declared.Registers.{Registers}
 use Rattle.graph.specs.declared.Commuting.{Commuting}
 use Rattle.graph.specs.declared.CircuitDag.{CircuitDag}
 use Rattle.graph.specs.Dag.{Entry, entry, size, entriesOf, sameKey}
-use Rattle.graph.proofs.BoolLaws.{bool-cases, clash-bool, and-l, and-r, split-lt}
+use Rattle.file.proofs.BoolLaws.{bool-cases, clash-bool, and-l, and-r, split-lt}
 use Rattle.graph.proofs.ListLaws.{all-at, at-all}
 use Rattle.registers.specs.Registers.{Maps, registersAfter}
 use Rattle.registers.specs.Registers.{withEntries}

@@ -1,7 +1,7 @@
 -- The loop of add_edges: new edges behind the old ones. Assumes nothing.
-use mathlib.Core.Path.{_≡_, refl, sym, ap, _∙_}
+use mathlib.Core.Path.{_≡_, refl, sym, _∙_}
 use mathlib.Core.Bool.{Bool}
-use mathlib.Core.List.{List, [], _∷_, _++_, map, append-assoc, append-nil}
+use mathlib.Core.List.{List, [], _∷_, _++_, map, append-assoc, append-nil, map-append}
 use Prim.Native.Nat.{ℕ, suc, _+_, _<_, _≤_}
 use native.Mathlib.Numerals.{add-one}
 use native.Mathlib.Omega.{arith}
@@ -10,10 +10,6 @@ use lib.Seq.{take-suc, drop-cons, set-at, length-take-le}
 use Rattle.graph.specs.Dag.{Edge}
 use Rattle.links.specs.Links.{link, appended}
 use Rattle.links.specs.Ends.{EdgesAdded}
-
-pub map-append : {A B : Type 0} (f : A → B) (l r : List A) → map f (l ++ r) ≡ map f l ++ map f r
-map-append f [] r = refl
-map-append f (x ∷ l) r = ap (λ t. f x ∷ t) (map-append f l r)
 
 pub appended-none : (n : ℕ) (old : List ℕ) → n ≤ length old → appended n [] old ≡ old
 appended-none n old h = rw (append-nil (take n old), length-take-le n old h, take-append-drop) refl

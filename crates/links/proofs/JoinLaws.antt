@@ -15,10 +15,11 @@ use Rattle.graph.specs.Dag.{absent, present, orElse, node}
 use Rattle.file.specs.declared.InvolvedQubits.the-variants.{None}
 use Rattle.graph.specs.declared.NodeIndex.{NodeIndex}
 use Rattle.graph.specs.declared.End.{End}
+use Rattle.file.proofs.BoolLaws.{bool-cases, both-true, clash-bool}
 use Rattle.links.specs.Links.{Linked, nearAll, source, qubits, linkQubits, linkSet, linkAll, linkBy}
 use Rattle.links.specs.Ends.{EndState, several, Only, endWith, endOf, EndFits, SetLinked, AllLinked, StateGrown, nearState, farState, Joined, JoinedBy, JoinedEndsBy}
 use Rattle.links.proofs.QubitLaws.{all-first, all-rest, qubits-none, qubits-next, qubits-below}
-use Rattle.links.proofs.LinkLaws.{bool-cases, both-ways, both-true, none-first, none-rest, linkOne}
+use Rattle.links.proofs.LinkLaws.{none-first, none-rest, linkOne}
 use Rattle.links.proofs.LinkLoops.{Within, or-within, set-within, becomes}
 
 -- ---- maps
@@ -252,7 +253,7 @@ first-entry v l size h =
     let a = none-present l h in
     map-set (v + 1) 1 l 0 v (omega arith) (omega arith) (omega arith) (record {
       size = size;
-      entries = λ q. rw (a q) (λ (p : false ≡ true). both-ways false p refl);
+      entries = λ q. rw (a q) (λ (p : false ≡ true). absurd (clash-bool p refl));
       top = λ q r. a q;
     })
 
@@ -260,7 +261,7 @@ first-entry v l size h =
 become-within : (v u : ℕ) → Within (v + 1) (becomes v u)
 become-within v u = ⊎-elim
     (λ (e : present u ≡ true). rw e (λ (p : present v ≡ true). omega arith))
-    (λ (e : present u ≡ false). rw (e, e) (λ (p : false ≡ true). both-ways false p refl))
+    (λ (e : present u ≡ false). rw (e, e) (λ (p : false ≡ true). absurd (clash-bool p refl)))
     (bool-cases (present u))
 
 become-fits : (v t : ℕ) (l : List ℕ) → MapFits v t l → MapFits (v + 1) t (map (becomes v) l)
@@ -408,8 +409,8 @@ unfolding anyOf
 fits-none = record {
   nodes = length-replicate 64 absent;
   blocks = length-replicate 512 false;
-  entries = λ q. rw (absents 64 q) (λ (p : false ≡ true). both-ways false p refl);
-  all = λ (p : false ≡ true). both-ways false p refl;
+  entries = λ q. rw (absents 64 q) (λ (p : false ≡ true). absurd (clash-bool p refl));
+  all = λ (p : false ≡ true). absurd (clash-bool p refl);
   low = omega arith;
   top = λ q r. absents 64 q;
   some = sym (falses 512);

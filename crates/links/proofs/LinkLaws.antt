@@ -2,7 +2,7 @@
 use mathlib.Core.Path.{_≡_, refl, sym, _∙_}
 use mathlib.Core.Bool.{Bool, true, false, cond, _&&_}
 use mathlib.Core.List.{List, [], _∷_, _++_}
-use mathlib.Core.Logic.{_⊎_, inl, inr, ⊎-elim}
+use mathlib.Core.Logic.{_⊎_, ⊎-elim}
 use Prim.Native.Nat.{ℕ, suc, _+_, _^_, _<_, _≤_}
 use native.Mathlib.Omega.{arith}
 use lib.Dec.{eqb, ltb}
@@ -16,23 +16,13 @@ use Rattle.file.specs.declared.InvolvedQubits.the-variants.{None, All, Set}
 use Rattle.graph.specs.declared.End.{End}
 use Rattle.graph.specs.Dag.{absent, present, orElse, atQubit}
 use Rattle.graph.specs.Soundness.{ascends}
+use Rattle.file.proofs.BoolLaws.{bool-cases, clash-bool, both-true}
+use Rattle.graph.proofs.ListLaws.{distinct-first, distinct-rest, distinct-more}
 use Rattle.links.specs.Links.{Linked, FarRule, nearAll, source, nearAfter, farAfter, noQubit, qubits, linkQubits, linkSet, mapped, linkAll, linkBy}
 use Rattle.links.specs.Links.{linkAt}
 use Rattle.links.proofs.QubitLaws.{all-more, all-first, all-rest, count-qubits, qubits-ascend}
 
 -- ---- tests and lists
-
-pub bool-cases : (b : Bool) → (b ≡ true) ⊎ (b ≡ false)
-bool-cases true = inl refl
-bool-cases false = inr refl
-
--- a test that came out both ways
-pub both-ways : {A : Type 0} (b : Bool) → b ≡ true → b ≡ false → A
-both-ways b t f = absurd (let z : _≡_ {A = ℕ} 0 1 = cc in omega arith)
-
-pub both-true : (a b : Bool) → (a && b) ≡ true → (a ≡ true) × (b ≡ true)
-both-true true b h = (refl, h)
-both-true false b h = both-ways false h refl
 
 module _ {A : Type 0} (p : A → Bool) where
   -- no entry passes
@@ -42,7 +32,7 @@ module _ {A : Type 0} (p : A → Bool) where
 
   pub none-first : (x : A) (l : List A) → anyOf p (x ∷ l) ≡ false → p x ≡ false
   unfolding anyOf
-  none-first x l h = ⊎-elim (λ (e : p x ≡ true). both-ways true refl (rw (anyOf, e) at h)) (λ (e : p x ≡ false). e) (bool-cases (p x))
+  none-first x l h = ⊎-elim (λ (e : p x ≡ true). absurd (clash-bool refl (rw (anyOf, e) at h))) (λ (e : p x ≡ false). e) (bool-cases (p x))
 
   pub none-rest : (x : A) (l : List A) → anyOf p (x ∷ l) ≡ false → anyOf p l ≡ false
   unfolding anyOf
@@ -58,35 +48,18 @@ module _ {A : Type 0} (p : A → Bool) where
   all-last [] x h e = all-more p x [] e h
   all-last (y ∷ l) x h e = all-more p y (l ++ (x ∷ [])) (all-first p y l h) (all-last l x (all-rest p y l h) e)
 
--- no two entries are the same
-distinct-more : (x : ℕ) (l : List ℕ) → member x l ≡ false → distinct eqb l ≡ true → distinct eqb (x ∷ l) ≡ true
-unfolding distinct
-distinct-more x l e r = rw (distinct, e) r
-
-distinct-first : (x : ℕ) (l : List ℕ) → distinct eqb (x ∷ l) ≡ true → member x l ≡ false
-unfolding distinct
-distinct-first x l h =
-    ⊎-elim
-    (λ (e : member x l ≡ true). both-ways false (rw (distinct, e) at h) refl)
-    (λ (e : member x l ≡ false). e)
-    (bool-cases (member x l))
-
-distinct-rest : (x : ℕ) (l : List ℕ) → distinct eqb (x ∷ l) ≡ true → distinct eqb l ≡ true
-unfolding distinct
-distinct-rest x l h = let e = distinct-first x l h in rw (distinct, e) at h
-
 distinct-last : (l : List ℕ) (x : ℕ) → distinct eqb l ≡ true → member x l ≡ false → distinct eqb (l ++ (x ∷ [])) ≡ true
 unfolding distinct anyOf
 distinct-last [] x h e = refl
 distinct-last (y ∷ l) x h e =
     let apart : eqb y x ≡ false = ne-eqb y x (λ (s : y ≡ x). eqb-false x y (none-first (eqb x) y l e) (sym s)) in
-    distinct-more y (l ++ (x ∷ [])) (none-last (eqb y) l x (distinct-first y l h) apart) (distinct-last l x (distinct-rest y l h) (none-rest (eqb x) y l e))
+    distinct-more eqb y (l ++ (x ∷ [])) (none-last (eqb y) l x (distinct-first eqb y l h) apart) (distinct-last l x (distinct-rest eqb y l h) (none-rest (eqb x) y l e))
 
 -- what ascends has no two the same
 pub ascend-distinct : (l : List ℕ) → ascends l ≡ true → distinct eqb l ≡ true
 unfolding ascends distinct anyOf
 ascend-distinct [] h = refl
-ascend-distinct (x ∷ l) h = let b = both-true (allOf (ltb x) l) (ascends l) h in distinct-more x l (apart l (b .0)) (ascend-distinct l (b .1))
+ascend-distinct (x ∷ l) h = let b = both-true (allOf (ltb x) l) (ascends l) h in distinct-more eqb x l (apart l (b .0)) (ascend-distinct l (b .1))
   where
     apart : (l : List ℕ) → allOf (ltb x) l ≡ true → member x l ≡ false
     apart [] h = refl
@@ -159,7 +132,7 @@ module _ (rule : FarRule) (v : ℕ) where
   unfolding linkQubits anyOf
   link-below [] x d h a o = o
   link-below (q ∷ qs) x d h a o =
-      link-below qs (linkOne rule v q x) (distinct-rest q qs d) rest a (add-below v (source (x .near) q) (x .others) small o)
+      link-below qs (linkOne rule v q x) (distinct-rest eqb q qs d) rest a (add-below v (source (x .near) q) (x .others) small o)
     where
       here : member q (q ∷ qs) ≡ true
       here = rw (anyOf, eq-eqb q q refl) refl
@@ -176,7 +149,7 @@ module _ (rule : FarRule) (v : ℕ) where
 
       rest : (j : ℕ) → member j qs ≡ true → present (getD (set (x .near .node) q v) j absent) ≡ true → getD (set (x .near .node) q v) j absent < v
       rest j m =
-          let apart : j ≡ q → ⊥ = λ (e : j ≡ q). both-ways (member q qs) (rw e at m) (distinct-first q qs d) in
+          let apart : j ≡ q → ⊥ = λ (e : j ≡ q). clash-bool (rw e at m) (distinct-first eqb q qs d) in
           rw (getD-set-other (x .near .node) q j v absent apart) (h j (later j m))
 
 -- "every node in the last map", once
@@ -283,12 +256,12 @@ module _ (v q : ℕ) where
   link-inside : (qs : List ℕ) (x : Linked) → distinct eqb qs ≡ true → member q qs ≡ true → q < length (x .near .node) → q < length (x .far .node)
       → (atQubit (linkQubits nearAll qs v x .near) q ≡ v) × (atQubit (linkQubits nearAll qs v x .far) q ≡ farEntry (x .near) (x .far) v q)
   unfolding linkQubits anyOf
-  link-inside [] x d m hn hf = both-ways false m refl
+  link-inside [] x d m hn hf = absurd (clash-bool m refl)
   link-inside (r ∷ qs) x d m hn hf =
       ⊎-elim
       (λ (e : eqb q r ≡ true).
       let s : q ≡ r = eqb-true q r e in
-      let o = link-outside qs (linkOne nearAll v r x) (rw s (distinct-first r qs d)) in
+      let o = link-outside qs (linkOne nearAll v r x) (rw s (distinct-first eqb r qs d)) in
       let n : atQubit (nearAfter (x .near) r v) q ≡ v = rw (← s) (getD-set-same (x .near .node) q v absent hn) in
       let f : atQubit (farAfter nearAll (x .near) (x .far) r v) q ≡ farEntry (x .near) (x .far) v q = rw (← s) (far-here (x .near) (x .far) v q hf) in
       (o .0 ∙ n, o .1 ∙ f))
@@ -296,7 +269,7 @@ module _ (v q : ℕ) where
       let apart : q ≡ r → ⊥ = eqb-false q r e in
       let hn′ : q < length (set (x .near .node) r v) = rw length-set hn in
       let hf′ : q < length (farAfter nearAll (x .near) (x .far) r v .node) = rw (far-length (x .near) (x .far) r v) hf in
-      let i = link-inside qs (linkOne nearAll v r x) (distinct-rest r qs d) (rw (anyOf, e) at m) hn′ hf′ in
+      let i = link-inside qs (linkOne nearAll v r x) (distinct-rest eqb r qs d) (rw (anyOf, e) at m) hn′ hf′ in
       (i .0, i .1 ∙ rw (near-other (x .near) r v q apart, far-other (x .near) (x .far) r v q apart) refl))
       (bool-cases (eqb q r))
 

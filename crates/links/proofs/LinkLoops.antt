@@ -16,9 +16,9 @@ use borrow.Author.Tests.{eq-eqb, ne-eqb}
 use Rattle.file.specs.Lists.{anyOf, member}
 use Rattle.graph.specs.declared.NodeIndex.{NodeIndex}
 use Rattle.graph.specs.Dag.{absent, present, orElse}
+use Rattle.file.proofs.BoolLaws.{bool-cases}
 use Rattle.links.specs.Links.{nearAll, qubits, linkQubits, mapped}
 use Rattle.links.specs.Ends.{endWith, OtherAdded, SetLinked, AllLinked}
-use Rattle.links.proofs.LinkLaws.{bool-cases}
 use Rattle.links.proofs.QubitLaws.{qubits-next, qubits-none, next-below, fewer, few-qubits}
 
 -- within a list the default does not matter

@@ -25,7 +25,7 @@ use Rattle.graph.specs.declared.Edges.{Edges}
 use Rattle.graph.specs.declared.End.{End}
 use Rattle.graph.specs.Dag.{absent, present, atQubit, noEnd, empty}
 use Rattle.graph.specs.Soundness.{named, ifPresent}
-use Rattle.graph.proofs.BoolLaws.{clash-bool, not-true, and-l, and-r}
+use Rattle.file.proofs.BoolLaws.{clash-bool, not-true, and-l, and-r}
 use Rattle.graph.proofs.ListLaws.{all-here, all-fails, all-at, at-all}
 use Rattle.graph.proofs.SizeLaws.{EndSized}
 use Rattle.graph.proofs.SoundnessLaws.{named-all, named-node}

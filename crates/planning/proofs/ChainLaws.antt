@@ -14,7 +14,7 @@ use Rattle.file.specs.Lists.{keep, upTo}
 use Rattle.graph.specs.declared.CircuitDag.{CircuitDag}
 use Rattle.graph.specs.Dag.{absent, size}
 use Rattle.graph.specs.Soundness.{sound}
-use Rattle.graph.proofs.BoolLaws.{bool-cases, clash-bool, not-true, bool-ext, and-l}
+use Rattle.file.proofs.BoolLaws.{bool-cases, clash-bool, not-true, bool-ext, and-l}
 use Rattle.graph.proofs.ListLaws.{length-upTo, upTo-at}
 use Rattle.queries.proofs.BufferLaws.{keep-yes, keep-no}
 use Rattle.insertion.proofs.ConversionLaws.{keep-none}

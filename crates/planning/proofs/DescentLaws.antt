@@ -18,7 +18,7 @@ use Rattle.graph.specs.Dag.{absent, size}
 use Rattle.graph.specs.Soundness.{sound}
 use Rattle.queries.specs.Queries.{Lent}
 use Rattle.queries.specs.Marks.{putAt}
-use Rattle.graph.proofs.BoolLaws.{bool-cases, clash-bool, and-l, and-r, and-intro, split-lt}
+use Rattle.file.proofs.BoolLaws.{bool-cases, clash-bool, and-l, and-r, and-intro, split-lt}
 use Rattle.queries.proofs.BufferLaws.{put-none, put-one, put-put, length-put, answers-short, answers-whole}
 use Rattle.links.proofs.LinkLoops.{any-default}
 use Rattle.walk.specs.declared.BlockCount.{BlockCount}

@@ -8,7 +8,7 @@ use Prim.Native.Nat.{ℕ, suc, _<_}
 use native.Mathlib.Omega.{arith}
 use lib.Dec.{eqb}
 use borrow.Author.Tests.{eqb-true}
-use Rattle.graph.proofs.BoolLaws.{bool-cases, clash-bool, and-l, or-cases}
+use Rattle.file.proofs.BoolLaws.{bool-cases, clash-bool, and-l, or-cases}
 use Rattle.walk.proofs.Bounds.{any, any-elim, any-and}
 use Rattle.walk.proofs.Nets.{Take, nothing, every, these, on, isOp, isAll, all-on, on-op, all-op, orElse, is, is-some, present, never, Net, flip, put, put-same, put-other, source, or, far, backThese, noQubits, backEvery, backNothing, same-node, new-cases, Call, back, insert, run, empty}
 

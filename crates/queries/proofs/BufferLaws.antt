@@ -15,7 +15,7 @@ use Rattle.file.specs.declared.Refusal.the-variants.{ShortBuffer}
 use Rattle.queries.specs.declared.Query.the-variants.{Entries}
 use Rattle.queries.specs.Queries.{Lent, refuses, answers, remove}
 use Rattle.queries.specs.Marks.{kept, putAt, without, layerBy, FirstAt}
-use Rattle.graph.proofs.BoolLaws.{bool-cases, clash-bool, split-lt}
+use Rattle.file.proofs.BoolLaws.{bool-cases, clash-bool, split-lt}
 use Rattle.graph.proofs.ListLaws.{at-any, at-none}
 
 -- ---- the entries that pass

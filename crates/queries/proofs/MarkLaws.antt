@@ -1,6 +1,6 @@
 -- Sets of nodes as marks: the loops that make them and spread them along the edges. Assumes nothing.
 use mathlib.Core.Path.{_≡_, refl, sym, _∙_, ap}
-use mathlib.Core.Bool.{Bool, true, false, cond, not, _&&_, _||_}
+use mathlib.Core.Bool.{Bool, true, false, cond, not, _&&_, _||_, or-false}
 use mathlib.Core.Logic.{_⊎_, inl, inr, ⊎-elim}
 use mathlib.Core.List.{List, [], _∷_}
 use Prim.Native.Nat.{ℕ, zero, suc, _+_, _-_, _≤_, _<_}
@@ -10,22 +10,14 @@ use native.Mathlib.Decide.{decLt, ℕ-discrete}
 use lib.Dec.{ltb, leb, eqb}
 use lib.ListN.{length, getD, take, set, replicate, length-set}
 use lib.Seq.{take-suc, take-length, getD-set-same, getD-set-other}
-use borrow.Author.Tests.{ltb-true, leb-true, le-leb, eqb-true, eq-eqb, ne-eqb}
+use borrow.Author.Tests.{ltb-true, leb-true, le-leb, eqb-true, eq-eqb, ne-eqb, not-true as not-flip}
 use Rattle.file.specs.Lists.{anyOf, member}
+use Rattle.graph.proofs.CheckLaws.{unmarked as replicate-false}
 use Rattle.queries.specs.Marks.{noNode, everyNode, unmarked, Listed, EndsBelow, Ordered, LeadsAbove, Neighbours, Passes, Spread, Swept, Closed}
-use Rattle.graph.proofs.BoolLaws.{bool-cases, clash-bool, and-l, and-r, and-intro, or-cases, or-l, or-r, or-inl, or-inr, not-flip, flip-not, eqb-same, split-lt}
+use Rattle.file.proofs.BoolLaws.{bool-cases, clash-bool, and-l, and-r, and-intro, or-cases, or-l, or-r, or-inl, or-inr, flip-not, eqb-same, split-lt}
 use Rattle.graph.proofs.ListLaws.{any-here, any-later, any-append}
 
-or-none : (b : Bool) → b ≡ (b || false)
-or-none true = refl
-or-none false = refl
-
 -- ---- one mark more
-
-replicate-false : (n u : ℕ) → getD (replicate n false) u false ≡ false
-replicate-false zero u = refl
-replicate-false (suc n) zero = refl
-replicate-false (suc n) (suc u) = replicate-false n u
 
 replicate-true : (n u : ℕ) → u < n → getD (replicate n true) u false ≡ true
 replicate-true zero u h = absurd (omega arith)
@@ -36,7 +28,7 @@ replicate-true (suc n) (suc u) h = replicate-true n u (omega arith)
 pub mark-set : (r : List Bool) (a u : ℕ) → a < length r → getD (set r a true) u false ≡ (getD r u false || eqb u a)
 mark-set r a u h = elim (ℕ-discrete u a) [
   | yes e ↦ rw (e, eqb-same a) (getD-set-same r a true false h ∙ sym (or-inr (getD r a false) true refl))
-  | no m ↦ rw (ne-eqb u a m) (getD-set-other r a u true false m ∙ or-none (getD r u false))
+  | no m ↦ rw (ne-eqb u a m) (getD-set-other r a u true false m ∙ sym (or-false (getD r u false)))
 ]
 
 pub none-marked : (u : ℕ) → getD noNode u false ≡ false
@@ -63,7 +55,7 @@ only-marked v u h = mark-set noNode v u (omega (arith, none-long)) ∙ ap (λ (b
 pub mark-or : (r : List Bool) (a u : ℕ) (x : Bool) → a < length r → getD (set r a (getD r a false || x)) u false ≡ (getD r u false || (eqb u a && x))
 mark-or r a u x h = elim (ℕ-discrete u a) [
   | yes e ↦ rw (e, eqb-same a) (getD-set-same r a (getD r a false || x) false h)
-  | no m ↦ rw (ne-eqb u a m) (getD-set-other r a u (getD r a false || x) false m ∙ or-none (getD r u false))
+  | no m ↦ rw (ne-eqb u a m) (getD-set-other r a u (getD r a false || x) false m ∙ sym (or-false (getD r u false)))
 ]
 
 -- ---- the nodes of a list
@@ -78,7 +70,7 @@ one-member u x = ⊎-elim
 pub member-cons : (u x : ℕ) (l : List ℕ) → member u (x ∷ l) ≡ (member u l || eqb u x)
 member-cons u x l = ⊎-elim
     (λ (t : eqb u x ≡ true). any-here (eqb u) x l t ∙ sym (or-inr (member u l) (eqb u x) t))
-    (λ (t : eqb u x ≡ false). any-later (eqb u) x l t ∙ rw t (or-none (member u l)))
+    (λ (t : eqb u x ≡ false). any-later (eqb u) x l t ∙ rw t (sym (or-false (member u l))))
     (bool-cases (eqb u x))
 
 member-take : (l : List ℕ) (i u : ℕ) → i < length l → member u (take (i + 1) l) ≡ (member u (take i l) || eqb u (getD l i 0))
@@ -109,7 +101,7 @@ module _ (list : List ℕ) where
       long = I .long;
       each = λ u l.
           let n : eqb u (getD list i 0) ≡ false = ne-eqb u (getD list i 0) (omega (arith, e)) in
-          I .each u l ∙ sym (member-take list i u k ∙ rw n (sym (or-none (member u (take i list)))));
+          I .each u l ∙ sym (member-take list i u k ∙ rw n (or-false (member u (take i list))));
     })
 
   pub lists-all : (r : List Bool) (i : ℕ) → Listing list r i → length list ≤ i → Listed list r

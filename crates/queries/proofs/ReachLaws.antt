@@ -1,7 +1,7 @@
 -- Which nodes are reached from which, on a sound graph: the test is the relation, and marks that the edges can carry no
 -- further are ancestors, or the nodes that wait. Assumes nothing.
 use mathlib.Core.Path.{_≡_, refl, sym, _∙_, ap}
-use mathlib.Core.Bool.{Bool, true, false, not, _&&_, _||_}
+use mathlib.Core.Bool.{Bool, true, false, not, _&&_, _||_, Bool·not-not}
 use mathlib.Core.Logic.{_⊎_, inl, inr, ⊎-elim}
 use mathlib.Core.List.{List, [], _∷_}
 use Prim.Native.Nat.{ℕ, zero, suc, _+_, _-_, _≤_, _<_}
@@ -11,7 +11,7 @@ use lib.Dec.{eqb, ltb}
 use lib.IntN.{ℤ, pos, negsuc}
 use lib.Signed.{ltZ}
 use lib.ListN.{getD, set}
-use borrow.Author.Tests.{not-false, ltb-true, lt-ltb, eqb-true, eq-eqb, ne-eqb}
+use borrow.Author.Tests.{not-false, ltb-true, lt-ltb, eqb-true, eq-eqb, ne-eqb, not-true as not-flip}
 use Rattle.file.specs.Lists.{anyOf, allOf, keep, countFrom, upTo, member, isEmpty}
 use Rattle.graph.specs.declared.CircuitDag.{CircuitDag}
 use Rattle.graph.specs.Dag.{Edge, edge, edgeAt, size, edgesOf, hasEdge, sameEdge, placeOf}
@@ -19,7 +19,7 @@ use Rattle.graph.specs.Soundness.{ascends, placeWithin}
 use Rattle.queries.specs.Reach.{Reached, along, onward, reachedBy, reached, blocking, Blocks, BlockingList, predecessorsOf, successorsOf}
 use Rattle.queries.specs.Queries.{freed}
 use Rattle.queries.specs.Marks.{noNode, everyNode, kept, Listed, EndsBelow, Neighbours, Closed, Waiting}
-use Rattle.graph.proofs.BoolLaws.{bool-cases, clash-bool, bool-ext, and-l, and-r, and-intro, or-cases, or-inl, or-inr, not-flip, flip-not, eqb-same}
+use Rattle.file.proofs.BoolLaws.{bool-cases, clash-bool, bool-ext, and-l, and-r, and-intro, or-cases, or-inl, or-inr, flip-not, eqb-same}
 use Rattle.graph.proofs.ListLaws.{any-here, any-later, any-at, at-any, all-here, all-at, keep-any, upTo-any, any-upTo}
 use Rattle.graph.proofs.SoundnessLaws.{Sound}
 use Rattle.queries.proofs.MarkLaws.{none-marked, other-marked, only-marked, member-cons}
@@ -321,10 +321,6 @@ freed-ascend g executed v = ap ascends (keep-keep (λ w. hasEdge g v w) (λ w. i
 
 -- ---- marks
 
-not-not : (b : Bool) → not (not b) ≡ b
-not-not true = refl
-not-not false = refl
-
 module _ (g : CircuitDag) (S : Sound g) where
   abbrev m : ℕ
   m = g .edges .count
@@ -475,5 +471,5 @@ module _ (g : CircuitDag) (S : Sound g) where
         → Waiting skip (g .edges .to) (g .edges .from) m bad → kept mark bad (size g) ≡ freed g executed v
     freed-kept N executed skip bad L X =
         keep-same (λ u. getD mark u false && not (getD bad u false)) (λ w. hasEdge g v w && isEmpty (blocking g (v ∷ executed) w)) (size g)
-        (λ w l t. successor-marks v low mark N w t && (ap not (waiting-marks (v ∷ executed) skip L bad X w) ∙ not-not (isEmpty (blocking g (v ∷ executed) w))) t)
+        (λ w l t. successor-marks v low mark N w t && (ap not (waiting-marks (v ∷ executed) skip L bad X w) ∙ Bool·not-not (isEmpty (blocking g (v ∷ executed) w))) t)
         ∙ sym (keep-keep (λ w. hasEdge g v w) (λ w. isEmpty (blocking g (v ∷ executed) w)) (upTo (size g)))

@@ -18,7 +18,7 @@ use Rattle.graph.specs.declared.NodeIndex.{NodeIndex}
 use Rattle.graph.specs.declared.Registers.{Registers}
 use Rattle.graph.specs.Dag.{Entry, entriesOf, noRegisters}
 use Rattle.graph.specs.Soundness.{keysDistinct, registerMapRule}
-use Rattle.graph.proofs.BoolLaws.{and-l, and-r, or-l, or-r}
+use Rattle.file.proofs.BoolLaws.{and-l, and-r, or-l, or-r}
 use Rattle.graph.proofs.SizeLaws.{RegistersSized}
 use Rattle.registers.specs.Registers.{Maps, withEntries, registersAfter, mapsAfter, mapsPass, registersOf, stored, mapsStopped, mapsKept, registersFrom, registerRecords, registerRecord}
 use Rattle.registers.specs.RegisterMaps.{registers, Fits, EndsBecome, pass}

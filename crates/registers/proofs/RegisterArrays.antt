@@ -1,7 +1,7 @@
 -- The register maps as arrays: what stands in them after a store, and that a key is put as the rule says. Assumes nothing.
 use mathlib.Core.Path.{_≡_, refl, sym, _∙_, ap, subst}
 use mathlib.Core.Bool.{true, false, _||_}
-use mathlib.Core.List.{List, [], _∷_, _++_, map, map-map}
+use mathlib.Core.List.{List, [], _∷_, _++_, map, map-map, map-append}
 use Prim.Native.Nat.{ℕ, zero, suc, _+_, _-_, _<_, _≤_}
 use native.Mathlib.Omega.{arith}
 use native.Mathlib.Numerals.{add-one}
@@ -9,39 +9,23 @@ use lib.Dec.{ltb}
 use lib.ListN.{length, getD, set, take, drop, length-append, length-map, length-set, length-drop, take-append-drop, List·getD-append, List·getD-map}
 use lib.Seq.{ext-getD, drop-cons, set-append-left, drop-append-add, drop-drop, set-append-seam, append-snoc, length-take-le, getD-take, map-set-same}
 use borrow.Author.Tests.{lt-ltb, ltb-true, ltb-false}
-use Rattle.file.specs.Lists.{distinct, countFrom, upTo, onto}
+use Rattle.file.specs.Lists.{distinct, upTo, onto}
 use Rattle.file.specs.declared.RegisterKey.{RegisterKey}
 use Rattle.file.specs.declared.InvolvedClassical.{InvolvedClassical}
 use Rattle.graph.specs.declared.Registers.{Registers}
 use Rattle.graph.specs.Dag.{Entry, entry, sameKey, entryAt, entriesOf}
+use Rattle.file.proofs.BoolLaws.{clash-bool, not-true, not-false}
+use Rattle.graph.proofs.ListLaws.{length-countFrom, upTo-at}
 use Rattle.registers.specs.Registers.{hasKey, put, withEntries}
 use Rattle.registers.specs.RegisterMaps.{Grown, registers, keyed, StandsAt, Sized, Fits, Becomes, BothBecome, joined, pass}
-use Rattle.registers.proofs.RegisterLists.{clash, not-true, any-false, not-false, same-name, same-index, same-by, put-found, put-absent, length-put-has, length-put-new, put-grows, distinct-put}
+use Rattle.registers.proofs.RegisterLists.{any-false, same-name, same-index, same-by, put-found, put-absent, length-put-has, length-put-new, put-grows, distinct-put}
 
 -- ---- lists of numbers
-
-pub length-count : (n k : ℕ) → length (countFrom n k) ≡ n
-unfolding countFrom
-length-count zero k = refl
-length-count (suc n) k = ap suc (length-count n (k + 1))
-
-pub get-count : {A : Type 0} (f : ℕ → A) (n k i : ℕ) (d : A) → i < n → getD (map f (countFrom n k)) i d ≡ f (k + i)
-unfolding countFrom
-get-count f zero k i d h = absurd (omega arith)
-get-count f (suc n) k zero d h = let z : k ≡ k + 0 = omega arith in ap f z
-get-count f (suc n) k (suc i) d h = let z : k + 1 + i ≡ k + suc i = omega arith in get-count f n (k + 1) i d (omega arith) ∙ ap f z
-
-get-upTo : {A : Type 0} (f : ℕ → A) (n i : ℕ) (d : A) → i < n → getD (map f (upTo n)) i d ≡ f i
-get-upTo f n i d h = let z : 0 + i ≡ i = omega arith in get-count f n 0 i d h ∙ ap f z
 
 map-set : {A B : Type 0} (f : A → B) (l : List A) (i : ℕ) (a : A) → map f (set l i a) ≡ set (map f l) i (f a)
 map-set f [] i a = refl
 map-set f (y ∷ l) zero a = refl
 map-set f (y ∷ l) (suc i) a = ap (λ (m : List _). f y ∷ m) (map-set f l i a)
-
-map-append : {A B : Type 0} (f : A → B) (l m : List A) → map f (l ++ m) ≡ map f l ++ map f m
-map-append f [] m = refl
-map-append f (y ∷ l) m = ap (λ (k : List _). f y ∷ k) (map-append f l m)
 
 -- ---- an array with entries in front
 
@@ -66,10 +50,10 @@ module _ {A : Type 0} where
 -- ---- a map and its entries
 
 pub length-entries : (r : Registers) → length (entriesOf r) ≡ r .count
-length-entries r = length-map (upTo (r .count)) (entryAt r) ∙ length-count (r .count) 0
+length-entries r = length-map (upTo (r .count)) (entryAt r) ∙ length-countFrom (r .count) 0
 
 pub get-entries : (r : Registers) (i : ℕ) (d : Entry) → i < r .count → getD (entriesOf r) i d ≡ entryAt r i
-get-entries r i d h = get-upTo (entryAt r) (r .count) i d h
+get-entries r i d h = upTo-at (entryAt r) (r .count) i d h
 
 -- what was stored is read again
 pub entries-with : (r : Registers) (l : List Entry) → entriesOf (withEntries r l) ≡ l
@@ -87,10 +71,10 @@ entries-with r l = ext-getD (entry 0 0 0) (entriesOf (withEntries r l)) l (lengt
 -- the first n of an array
 read-take : (a : List ℕ) (n : ℕ) → n ≤ length a → map (λ (i : ℕ). getD a i 0) (upTo n) ≡ take n a
 read-take a n h = ext-getD 0 (map (λ (i : ℕ). getD a i 0) (upTo n)) (take n a)
-    (length-map (upTo n) (λ (i : ℕ). getD a i 0) ∙ length-count n 0 ∙ sym (length-take-le n a h))
+    (length-map (upTo n) (λ (i : ℕ). getD a i 0) ∙ length-countFrom n 0 ∙ sym (length-take-le n a h))
     λ i b.
-    let c : i < n = rw (length-map (upTo n) (λ (i : ℕ). getD a i 0), length-count n 0) at b in
-    get-upTo (λ (i : ℕ). getD a i 0) n i 0 c ∙ sym (getD-take n a i 0 c)
+    let c : i < n = rw (length-map (upTo n) (λ (i : ℕ). getD a i 0), length-countFrom n 0) at b in
+    upTo-at (λ (i : ℕ). getD a i 0) n i 0 c ∙ sym (getD-take n a i 0 c)
 
 own : (l a : List ℕ) (n : ℕ) → n ≤ length a → l ≡ take n a → onto l a ≡ a
 own l a n h e = rw (e, length-take-le n a h) (take-append-drop n a)
@@ -222,7 +206,7 @@ module _ (r : Registers) (f : Fits r) (key : RegisterKey) (v : ℕ) where
       let n : length (put (keyed key v) (entriesOf r)) ≡ r .count + 1 = length-put-new (keyed key v) (entriesOf r) h ∙ ap (λ (n : ℕ). n + 1) (length-entries r) in
       let t : ltb 256 (new .count) ≡ true = lt-ltb 256 (new .count) (omega arith) in
       let u : ltb 256 (length (put (keyed key v) (entriesOf r))) ≡ true = lt-ltb 256 (length (put (keyed key v) (entriesOf r))) (rw n (omega arith)) in
-      record { passes = t ∙ sym u; kept = λ u. absurd (clash t u) }
+      record { passes = t ∙ sym u; kept = λ u. absurd (clash-bool t u) }
 
 -- ---- a map that only grows
 
@@ -269,10 +253,10 @@ pub both-over : (k : InvolvedClassical) (s : List ℕ) (v : ℕ) (near far near�
     → (ltb 256 (length (joined k s v near far .near)) || ltb 256 (length (joined k s v near far .far))) ≡ true → BothBecome k s v near far near′ far′
 both-over k s v near far near′ far′ a b = record {
   passes = a ∙ sym b;
-  near-count = λ e. absurd (clash a e);
-  far-count = λ e. absurd (clash a e);
-  near-map = λ e. absurd (clash a e);
-  far-map = λ e. absurd (clash a e);
+  near-count = λ e. absurd (clash-bool a e);
+  far-count = λ e. absurd (clash-bool a e);
+  near-map = λ e. absurd (clash-bool a e);
+  far-map = λ e. absurd (clash-bool a e);
 }
 
 pub both-are : (k : InvolvedClassical) (s : List ℕ) (v : ℕ) (near far near′ far′ : Registers) → near′ ≡ withEntries near (joined k s v near far .near)

@@ -9,12 +9,14 @@ use native.Mathlib.Decide.{ℕ-discrete}
 use lib.Dec.{ltb}
 use lib.ListN.{length, getD, set, take, length-append, length-set, replicate, length-replicate, getD-replicate}
 use lib.Seq.{take-all, take-suc, take-suc-set, getD-set-same, getD-set-other}
-use borrow.Author.Tests.{lt-ltb, le-ltb}
+use borrow.Author.Tests.{lt-ltb, le-ltb, not-false as told-true, not-true as not-flip}
 use Rattle.graph.specs.declared.Registers.{Registers}
 use Rattle.graph.specs.Dag.{Entry, entry, sameKey, entryAt, entriesOf}
+use Rattle.file.proofs.BoolLaws.{clash-bool, not-true}
+use Rattle.graph.proofs.ListLaws.{at-any}
 use Rattle.registers.specs.Registers.{hasKey, put, withEntries}
 use Rattle.registers.specs.RegisterMaps.{definition, putAll, Grown, Marked, Standing, registers, Fits, Becomes}
-use Rattle.registers.proofs.RegisterLists.{clash, not-true, any-at, any-none, any-append, same-name, same-index, put-found, put-put, put-commutes, has-put-same, has-put-other, other-index, define-first, definition-step, definition-none, putAll-grows, definition-long}
+use Rattle.registers.proofs.RegisterLists.{any-none, any-append, same-name, same-index, put-found, put-put, put-commutes, has-put-same, has-put-other, other-index, define-first, definition-step, definition-none, putAll-grows, definition-long}
 use Rattle.registers.proofs.RegisterArrays.{becomes, becomes-over, entries-put, get-entries, grown-own, grown-put, key-there, length-entries, put-new, put-over, put-there, with-with}
 
 -- ---- a definition
@@ -41,7 +43,7 @@ module _ (n m v : ℕ) (old : Registers) where
     grown = grown-own old f;
     same = refl;
     size = ap length e ∙ length-replicate 256 false;
-    yes = λ i h t. absurd (clash t (ap (λ (l : List Bool). getD l i false) e ∙ getD-replicate 256 i false false (omega arith)));
+    yes = λ i h t. absurd (clash-bool t (ap (λ (l : List Bool). getD l i false) e ∙ getD-replicate 256 i false false (omega arith)));
     no = λ i h t. any-none (sameKey (entry n i v));
   }
 
@@ -91,7 +93,7 @@ module _ (n m v : ℕ) (old : Registers) where
         below = rw (length-entries new) h
 
         has-now : hasKey (entry n q v) (entriesOf new) ≡ true
-        has-now = any-at (sameKey (entry n q v)) (entriesOf new) p (entry 0 0 0) below key-here
+        has-now = at-any (sameKey (entry n q v)) (entriesOf new) (entry 0 0 0) p below key-here
 
         set-now : put (entry n q v) (entriesOf new) ≡ set (entriesOf new) p (entry n q v)
         set-now = put-found (entry n q v) (entry 0 0 0) (entriesOf new) p below (i .grown .fits .keys) key-here
@@ -109,7 +111,7 @@ module _ (n m v : ℕ) (old : Registers) where
 
         no-now : (j : ℕ) → j < m → getD (set there q true) j false ≡ false → hasKey (entry n j v) (take (p + 1) (put (entry n q v) (entriesOf new))) ≡ false
         no-now j d t = elim (ℕ-discrete j q) [
-          | yes e ↦ absurd (clash (getD-set-same there q true false long) (rw e at t))
+          | yes e ↦ absurd (clash-bool (getD-set-same there q true false long) (rw e at t))
           | no e ↦
               rw (set-now, add-one, take-suc-set (entriesOf new) p (entry n q v) below)
               (any-append (sameKey (entry n j v)) (take p (entriesOf new)) (entry n q v)
@@ -177,7 +179,7 @@ module _ (n m v : ℕ) (there : List Bool) (old : Registers) where
             let g = putAll-grows (definition n v (m - (j + 1)) (j + 1)) (put (entry n j v) (entriesOf new)) in
             let l : 256 < length (putAll (definition n v m 0) (entriesOf old)) = rw (← next) (omega (arith, g, becomes-over new new′ _ b (omega arith))) in
             let u : ltb 256 (new′ .count) ≡ true = lt-ltb 256 (new′ .count) (omega arith) in
-            record { passes = u ∙ sym (lt-ltb 256 _ l); kept = λ w. absurd (clash u w) }
+            record { passes = u ∙ sym (lt-ltb 256 _ l); kept = λ w. absurd (clash-bool u w) }
 
         module _ (free : new .count < 256) (e : new′ ≡ withEntries new (entriesOf new ++ (entry n j v ∷ []))) where
           put-now : Becomes new new′ (put (entry n j v) (entriesOf new))
@@ -209,18 +211,10 @@ module _ (n m v : ℕ) (there : List Bool) (old : Registers) where
 
 -- the mark read at an index that a call returned
 pub marked : (there : List Bool) (k j : ℕ) → k ≡ j → not (getD there k false) ≡ false → getD there j false ≡ true
-marked there k j e t = ap (λ (i : ℕ). getD there i false) (sym e) ∙ not-flips (getD there k false) t
-  where
-    not-flips : (b : Bool) → not b ≡ false → b ≡ true
-    not-flips true t = refl
-    not-flips false t = sym t
+marked there k j e t = ap (λ (i : ℕ). getD there i false) (sym e) ∙ told-true (getD there k false) t
 
 pub unmarked : (there : List Bool) (k j : ℕ) → k ≡ j → not (getD there k false) ≡ true → getD there j false ≡ false
-unmarked there k j e t = ap (λ (i : ℕ). getD there i false) (sym e) ∙ not-flips (getD there k false) t
-  where
-    not-flips : (b : Bool) → not b ≡ true → b ≡ false
-    not-flips true t = sym t
-    not-flips false t = refl
+unmarked there k j e t = ap (λ (i : ℕ). getD there i false) (sym e) ∙ not-flip (getD there k false) t
 
 -- a definition in one map, from its two parts
 pub define-both : (n m v : ℕ) (old mid new : Registers) (there : List Bool) → Standing n m v old mid there
@@ -240,4 +234,4 @@ pub define-over : (n m v : ℕ) (old new : Registers) → 256 < m → new .count
 define-over n m v old new h e =
     let u : ltb 256 (new .count) ≡ true = lt-ltb 256 (new .count) (omega arith) in
     let l : 256 < length (putAll (definition n v m 0) (entriesOf old)) = omega (arith, definition-long n v m (entriesOf old)) in
-    record { passes = u ∙ sym (lt-ltb 256 _ l); kept = λ w. absurd (clash u w) }
+    record { passes = u ∙ sym (lt-ltb 256 _ l); kept = λ w. absurd (clash-bool u w) }

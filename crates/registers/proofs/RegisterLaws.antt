@@ -18,9 +18,11 @@ use Rattle.file.specs.declared.InvolvedClassical.{InvolvedClassical}
 use Rattle.file.specs.declared.InvolvedClassical.the-variants.{None, All, AllQubits, Set, Definition}
 use Rattle.graph.specs.declared.Registers.{Registers}
 use Rattle.graph.specs.Dag.{Entry, entry, sameKey, entriesOf, noRegisters}
+use Rattle.file.proofs.BoolLaws.{or-l, or-r, bool-cases, clash-bool, not-true, not-false}
+use Rattle.graph.proofs.ListLaws.{any-here, any-later, distinct-first, distinct-rest, distinct-more}
 use Rattle.registers.specs.Registers.{Maps, hasKey, put, define, setKeys, registersBy, withEntries}
 use Rattle.registers.specs.RegisterMaps.{definition, putAll, ofName, Sized, Fits, Becomes, BothBecome, EndsBecome, pass, mapsOf, mapBy}
-use Rattle.registers.proofs.RegisterLists.{put-none, put-yes, put-no, any-yes, any-no, distinct-none, distinct-cons, distinct-head, distinct-tail, or-l, or-r, define-each, bool-cases, clash, not-true, any-none, not-false, same-index, same-by, distinct-put}
+use Rattle.registers.proofs.RegisterLists.{put-none, put-yes, put-no, distinct-none, define-each, any-none, same-index, same-by, distinct-put}
 use Rattle.registers.proofs.RegisterArrays.{becomes}
 use Rattle.registers.proofs.RegisterSets.{set-none, set-step-has, set-step-new}
 use Rattle.registers.proofs.RegisterNames.{name-no, name-none, name-yes}
@@ -112,7 +114,7 @@ all-cons p x l a b = ap (λ (t : Bool). elim t [ true ↦ allOf p l | false ↦ 
 
 all-head : (p : Entry → Bool) (x : Entry) (l : List Entry) → allOf p (x ∷ l) ≡ true → p x ≡ true
 unfolding allOf
-all-head p x l h = not-false λ (t : p x ≡ false). clash h (ap (λ (t : Bool). elim t [ true ↦ allOf p l | false ↦ false ]) t)
+all-head p x l h = not-false λ (t : p x ≡ false). clash-bool h (ap (λ (t : Bool). elim t [ true ↦ allOf p l | false ↦ false ]) t)
 
 all-tail : (p : Entry → Bool) (x : Entry) (l : List Entry) → allOf p (x ∷ l) ≡ true → allOf p l ≡ true
 unfolding allOf
@@ -166,22 +168,22 @@ module _ (v : ℕ) (P Q : List Entry → Type 0) (near-put : (n i : ℕ) (l : Li
 has-of-name : (n v : ℕ) (y : Entry) (l : List Entry) → y .name ≡ n → hasKey y l ≡ false → hasKey (entry n (y .index) v) (ofName n v l) ≡ false
 has-of-name n v y [] e h = ap (hasKey (entry n (y .index) v)) (name-none n v) ∙ any-none (sameKey (entry n (y .index) v))
 has-of-name n v y (z ∷ l) e h =
-    let o : sameKey y z ≡ false = not-true (λ (t : sameKey y z ≡ true). clash (any-yes (sameKey y) z l t) h) in
-    let i : hasKey (entry n (y .index) v) (ofName n v l) ≡ false = has-of-name n v y l e (sym (any-no (sameKey y) z l o) ∙ h) in
+    let o : sameKey y z ≡ false = not-true (λ (t : sameKey y z ≡ true). clash-bool (any-here (sameKey y) z l t) h) in
+    let i : hasKey (entry n (y .index) v) (ofName n v l) ≡ false = has-of-name n v y l e (sym (any-later (sameKey y) z l o) ∙ h) in
     elim (ℕ-discrete (z .name) n) [
       | yes t ↦
           let d : sameKey (entry n (y .index) v) (entry n (z .index) v) ≡ false = not-true (λ (u : sameKey (entry n (y .index) v) (entry n (z .index) v) ≡ true).
-          clash (same-by y z (e ∙ sym t) (same-index (entry n (y .index) v) (entry n (z .index) v) u)) o) in
-          ap (hasKey (entry n (y .index) v)) (name-yes n v z l t) ∙ any-no (sameKey (entry n (y .index) v)) (entry n (z .index) v) (ofName n v l) d ∙ i
+          clash-bool (same-by y z (e ∙ sym t) (same-index (entry n (y .index) v) (entry n (z .index) v) u)) o) in
+          ap (hasKey (entry n (y .index) v)) (name-yes n v z l t) ∙ any-later (sameKey (entry n (y .index) v)) (entry n (z .index) v) (ofName n v l) d ∙ i
       | no t ↦ ap (hasKey (entry n (y .index) v)) (name-no n v z l t) ∙ i
     ]
 
 distinct-of-name : (n v : ℕ) (l : List Entry) → distinct sameKey l ≡ true → distinct sameKey (ofName n v l) ≡ true
 distinct-of-name n v [] h = ap (distinct sameKey) (name-none n v) ∙ distinct-none
 distinct-of-name n v (y ∷ l) h =
-    let i : distinct sameKey (ofName n v l) ≡ true = distinct-of-name n v l (distinct-tail y l h) in
+    let i : distinct sameKey (ofName n v l) ≡ true = distinct-of-name n v l (distinct-rest sameKey y l h) in
     elim (ℕ-discrete (y .name) n) [
-      | yes t ↦ ap (distinct sameKey) (name-yes n v y l t) ∙ distinct-cons (entry n (y .index) v) (ofName n v l) (has-of-name n v y l t (distinct-head y l h)) i
+      | yes t ↦ ap (distinct sameKey) (name-yes n v y l t) ∙ distinct-more sameKey (entry n (y .index) v) (ofName n v l) (has-of-name n v y l t (distinct-first sameKey y l h)) i
       | no t ↦ ap (distinct sameKey) (name-no n v y l t) ∙ i
     ]
 

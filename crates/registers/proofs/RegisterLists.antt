@@ -1,7 +1,7 @@
 -- The register rules on lists of entries: where a key stands, what putting it does, and that a definition goes map by map. Assumes nothing.
 use mathlib.Core.Path.{_≡_, refl, sym, _∙_, ap}
-use mathlib.Core.Bool.{Bool, true, false, cond, _&&_, _||_}
-use mathlib.Core.Logic.{_⊎_, inl, inr, ⊎-elim}
+use mathlib.Core.Bool.{Bool, true, false, cond, _&&_}
+use mathlib.Core.Logic.{_⊎_, ⊎-elim}
 use mathlib.Core.List.{List, [], _∷_, _++_}
 use Prim.Native.Nat.{ℕ, zero, suc, _+_, _<_, _≤_}
 use native.Mathlib.Omega.{arith}
@@ -11,44 +11,12 @@ use lib.ListN.{length, getD, set, length-append}
 use borrow.Author.Tests.{eq-eqb, eqb-true, lt-ltb, le-ltb, ltb-true}
 use Rattle.file.specs.Lists.{anyOf, distinct, countFrom}
 use Rattle.graph.specs.Dag.{Entry, entry, sameKey}
+use Rattle.file.proofs.BoolLaws.{bool-cases, clash-bool, not-true, bool-ext, and-l, and-r}
+use Rattle.graph.proofs.ListLaws.{any-here, any-later, distinct-first, distinct-rest, distinct-more, at-any}
 use Rattle.registers.specs.Registers.{Maps, hasKey, put, define}
 use Rattle.registers.specs.RegisterMaps.{putAll, definition}
 
 -- ---- tests
-
-pub bool-cases : (b : Bool) → (b ≡ true) ⊎ (b ≡ false)
-bool-cases true = inl refl
-bool-cases false = inr refl
-
-pub clash : {b : Bool} → b ≡ true → b ≡ false → ⊥
-clash p q = let z : _≡_ {A = ℕ} 0 1 = cc in omega arith
-
-pub not-true : {b : Bool} → (b ≡ true → ⊥) → b ≡ false
-not-true {b} h = ⊎-elim (λ e. absurd (h e)) (λ e. e) (bool-cases b)
-
-pub not-false : {b : Bool} → (b ≡ false → ⊥) → b ≡ true
-not-false {b} h = ⊎-elim (λ e. e) (λ e. absurd (h e)) (bool-cases b)
-
-bool-ext : (a b : Bool) → (a ≡ true → b ≡ true) → (b ≡ true → a ≡ true) → a ≡ b
-bool-ext true b f g = sym (f refl)
-bool-ext false true f g = g refl
-bool-ext false false f g = refl
-
-and-l : (a b : Bool) → (a && b) ≡ true → a ≡ true
-and-l true b h = refl
-and-l false b h = h
-
-and-r : (a b : Bool) → (a && b) ≡ true → b ≡ true
-and-r true b h = h
-and-r false b h = cc
-
-pub or-l : (a b : Bool) → (a || b) ≡ false → a ≡ false
-or-l true b h = h
-or-l false b h = refl
-
-pub or-r : (a b : Bool) → (a || b) ≡ false → b ≡ false
-or-r true b h = cc
-or-r false b h = h
 
 -- ---- the same key
 
@@ -75,14 +43,6 @@ same-right x y z h = rw (same-name x y h, same-index x y h) refl
 
 -- ---- the rules, step by step
 
-pub any-yes : (q : Entry → Bool) (y : Entry) (l : List Entry) → q y ≡ true → anyOf q (y ∷ l) ≡ true
-unfolding anyOf
-any-yes q y l t = ap (λ (b : Bool). elim b [ true ↦ true | false ↦ anyOf q l ]) t
-
-pub any-no : (q : Entry → Bool) (y : Entry) (l : List Entry) → q y ≡ false → anyOf q (y ∷ l) ≡ anyOf q l
-unfolding anyOf
-any-no q y l t = ap (λ (b : Bool). elim b [ true ↦ true | false ↦ anyOf q l ]) t
-
 pub any-none : (q : Entry → Bool) → anyOf q [] ≡ false
 unfolding anyOf
 any-none q = refl
@@ -103,49 +63,29 @@ pub distinct-none : distinct sameKey [] ≡ true
 unfolding distinct
 distinct-none = refl
 
-pub distinct-cons : (x : Entry) (l : List Entry) → hasKey x l ≡ false → distinct sameKey l ≡ true → distinct sameKey (x ∷ l) ≡ true
-unfolding distinct
-distinct-cons x l a b = ap (λ (b : Bool). elim b [ true ↦ false | false ↦ distinct sameKey l ]) a ∙ b
-
-pub distinct-head : (x : Entry) (l : List Entry) → distinct sameKey (x ∷ l) ≡ true → hasKey x l ≡ false
-unfolding distinct
-distinct-head x l h = not-true λ (t : hasKey x l ≡ true). clash h (ap (λ (b : Bool). elim b [ true ↦ false | false ↦ distinct sameKey l ]) t)
-
-pub distinct-tail : (x : Entry) (l : List Entry) → distinct sameKey (x ∷ l) ≡ true → distinct sameKey l ≡ true
-unfolding distinct
-distinct-tail x l h = sym (ap (λ (b : Bool). elim b [ true ↦ false | false ↦ distinct sameKey l ]) (distinct-head x l h)) ∙ h
-
 -- ---- where a key stands
-
-pub any-at : (q : Entry → Bool) (l : List Entry) (p : ℕ) (d : Entry) → p < length l → q (getD l p d) ≡ true → anyOf q l ≡ true
-any-at q [] p d h e = absurd (omega arith)
-any-at q (y ∷ l) zero d h e = any-yes q y l e
-any-at q (y ∷ l) (suc p) d h e = ⊎-elim
-    (λ (t : q y ≡ true). any-yes q y l t)
-    (λ (t : q y ≡ false). any-no q y l t ∙ any-at q l p d (omega arith) e)
-    (bool-cases (q y))
 
 pub any-false : (q : Entry → Bool) (l : List Entry) (d : Entry) → ((k : ℕ) → k < length l → q (getD l k d) ≡ true → ⊥) → anyOf q l ≡ false
 any-false q [] d h = any-none q
-any-false q (y ∷ l) d h = any-no q y l (not-true (h 0 (omega arith))) ∙ any-false q l d (λ k b. h (suc k) (omega arith))
+any-false q (y ∷ l) d h = any-later q y l (not-true (h 0 (omega arith))) ∙ any-false q l d (λ k b. h (suc k) (omega arith))
 
 any-tail : (q : Entry → Bool) (y : Entry) (l m : List Entry) → anyOf q l ≡ anyOf q m → anyOf q (y ∷ l) ≡ anyOf q (y ∷ m)
 any-tail q y l m e = ⊎-elim
-    (λ (t : q y ≡ true). any-yes q y l t ∙ sym (any-yes q y m t))
-    (λ (t : q y ≡ false). any-no q y l t ∙ e ∙ sym (any-no q y m t))
+    (λ (t : q y ≡ true). any-here q y l t ∙ sym (any-here q y m t))
+    (λ (t : q y ≡ false). any-later q y l t ∙ e ∙ sym (any-later q y m t))
     (bool-cases (q y))
 
 pub any-append : (q : Entry → Bool) (l : List Entry) (y : Entry) → anyOf q l ≡ false → q y ≡ false → anyOf q (l ++ (y ∷ [])) ≡ false
-any-append q [] y e t = any-no q y [] t ∙ e
+any-append q [] y e t = any-later q y [] t ∙ e
 any-append q (z ∷ l) y e t =
-    let u : q z ≡ false = not-true (λ (s : q z ≡ true). clash (any-yes q z l s) e) in
-    any-no q z (l ++ (y ∷ [])) u ∙ any-append q l y (sym (any-no q z l u) ∙ e) t
+    let u : q z ≡ false = not-true (λ (s : q z ≡ true). clash-bool (any-here q z l s) e) in
+    any-later q z (l ++ (y ∷ [])) u ∙ any-append q l y (sym (any-later q z l u) ∙ e) t
 
 pub has-left : (x y : Entry) (l : List Entry) → sameKey x y ≡ true → hasKey x l ≡ hasKey y l
 has-left x y [] h = any-none (sameKey x) ∙ sym (any-none (sameKey y))
 has-left x y (z ∷ l) h = ⊎-elim
-    (λ (t : sameKey y z ≡ true). any-yes (sameKey x) z l (same-left x y z h ∙ t) ∙ sym (any-yes (sameKey y) z l t))
-    (λ (t : sameKey y z ≡ false). any-no (sameKey x) z l (same-left x y z h ∙ t) ∙ has-left x y l h ∙ sym (any-no (sameKey y) z l t))
+    (λ (t : sameKey y z ≡ true). any-here (sameKey x) z l (same-left x y z h ∙ t) ∙ sym (any-here (sameKey y) z l t))
+    (λ (t : sameKey y z ≡ false). any-later (sameKey x) z l (same-left x y z h ∙ t) ∙ has-left x y l h ∙ sym (any-later (sameKey y) z l t))
     (bool-cases (sameKey y z))
 
 -- ---- what putting a key does
@@ -154,20 +94,20 @@ pub put-found : (x d : Entry) (l : List Entry) (p : ℕ) → p < length l → di
 put-found x d [] p h n e = absurd (omega arith)
 put-found x d (y ∷ l) zero h n e = put-yes x y l e
 put-found x d (y ∷ l) (suc p) h n e =
-    let t : sameKey x y ≡ false = not-true (λ (s : sameKey x y ≡ true). clash (any-at (sameKey y) l p d (omega arith) (sym (same-left x y (getD l p d) s) ∙ e)) (distinct-head y l n)) in
-    put-no x y l t ∙ ap (λ (m : List Entry). y ∷ m) (put-found x d l p (omega arith) (distinct-tail y l n) e)
+    let t : sameKey x y ≡ false = not-true (λ (s : sameKey x y ≡ true). clash-bool (at-any (sameKey y) l d p (omega arith) (sym (same-left x y (getD l p d) s) ∙ e)) (distinct-first sameKey y l n)) in
+    put-no x y l t ∙ ap (λ (m : List Entry). y ∷ m) (put-found x d l p (omega arith) (distinct-rest sameKey y l n) e)
 
 pub put-absent : (x : Entry) (l : List Entry) → hasKey x l ≡ false → put x l ≡ l ++ (x ∷ [])
 put-absent x [] h = put-none x
 put-absent x (y ∷ l) h =
-    let t : sameKey x y ≡ false = not-true (λ (s : sameKey x y ≡ true). clash (any-yes (sameKey x) y l s) h) in
-    put-no x y l t ∙ ap (λ (m : List Entry). y ∷ m) (put-absent x l (sym (any-no (sameKey x) y l t) ∙ h))
+    let t : sameKey x y ≡ false = not-true (λ (s : sameKey x y ≡ true). clash-bool (any-here (sameKey x) y l s) h) in
+    put-no x y l t ∙ ap (λ (m : List Entry). y ∷ m) (put-absent x l (sym (any-later (sameKey x) y l t) ∙ h))
 
 pub length-put-has : (x : Entry) (l : List Entry) → hasKey x l ≡ true → length (put x l) ≡ length l
-length-put-has x [] h = absurd (clash h (any-none (sameKey x)))
+length-put-has x [] h = absurd (clash-bool h (any-none (sameKey x)))
 length-put-has x (y ∷ l) h = ⊎-elim
     (λ (t : sameKey x y ≡ true). ap length (put-yes x y l t))
-    (λ (t : sameKey x y ≡ false). ap length (put-no x y l t) ∙ ap suc (length-put-has x l (sym (any-no (sameKey x) y l t) ∙ h)))
+    (λ (t : sameKey x y ≡ false). ap length (put-no x y l t) ∙ ap suc (length-put-has x l (sym (any-later (sameKey x) y l t) ∙ h)))
     (bool-cases (sameKey x y))
 
 pub length-put-new : (x : Entry) (l : List Entry) → hasKey x l ≡ false → length (put x l) ≡ length l + 1
@@ -181,25 +121,25 @@ put-grows x l = ⊎-elim
 
 -- the key put stands, and so does each that stood
 pub has-put-same : (x : Entry) (l : List Entry) → hasKey x (put x l) ≡ true
-has-put-same x [] = ap (hasKey x) (put-none x) ∙ any-yes (sameKey x) x [] (same-by x x refl refl)
+has-put-same x [] = ap (hasKey x) (put-none x) ∙ any-here (sameKey x) x [] (same-by x x refl refl)
 has-put-same x (z ∷ l) = ⊎-elim
-    (λ (t : sameKey x z ≡ true). ap (hasKey x) (put-yes x z l t) ∙ any-yes (sameKey x) x l (same-by x x refl refl))
-    (λ (t : sameKey x z ≡ false). ap (hasKey x) (put-no x z l t) ∙ any-no (sameKey x) z (put x l) t ∙ has-put-same x l)
+    (λ (t : sameKey x z ≡ true). ap (hasKey x) (put-yes x z l t) ∙ any-here (sameKey x) x l (same-by x x refl refl))
+    (λ (t : sameKey x z ≡ false). ap (hasKey x) (put-no x z l t) ∙ any-later (sameKey x) z (put x l) t ∙ has-put-same x l)
     (bool-cases (sameKey x z))
 
 pub has-put-other : (x y : Entry) (l : List Entry) → sameKey x y ≡ false → hasKey x (put y l) ≡ hasKey x l
-has-put-other x y [] n = ap (hasKey x) (put-none y) ∙ any-no (sameKey x) y [] n
+has-put-other x y [] n = ap (hasKey x) (put-none y) ∙ any-later (sameKey x) y [] n
 has-put-other x y (z ∷ l) n = ⊎-elim
-    (λ (t : sameKey y z ≡ true). ap (hasKey x) (put-yes y z l t) ∙ any-no (sameKey x) y l n ∙ sym (any-no (sameKey x) z l (sym (same-right y z x t) ∙ n)))
+    (λ (t : sameKey y z ≡ true). ap (hasKey x) (put-yes y z l t) ∙ any-later (sameKey x) y l n ∙ sym (any-later (sameKey x) z l (sym (same-right y z x t) ∙ n)))
     (λ (t : sameKey y z ≡ false). ap (hasKey x) (put-no y z l t) ∙ any-tail (sameKey x) z (put y l) l (has-put-other x y l n))
     (bool-cases (sameKey y z))
 
 pub distinct-put : (x : Entry) (l : List Entry) → distinct sameKey l ≡ true → distinct sameKey (put x l) ≡ true
-distinct-put x [] h = ap (distinct sameKey) (put-none x) ∙ distinct-cons x [] (any-none (sameKey x)) h
+distinct-put x [] h = ap (distinct sameKey) (put-none x) ∙ distinct-more sameKey x [] (any-none (sameKey x)) h
 distinct-put x (z ∷ l) h = ⊎-elim
-    (λ (t : sameKey x z ≡ true). ap (distinct sameKey) (put-yes x z l t) ∙ distinct-cons x l (has-left x z l t ∙ distinct-head z l h) (distinct-tail z l h))
+    (λ (t : sameKey x z ≡ true). ap (distinct sameKey) (put-yes x z l t) ∙ distinct-more sameKey x l (has-left x z l t ∙ distinct-first sameKey z l h) (distinct-rest sameKey z l h))
     (λ (t : sameKey x z ≡ false). ap (distinct sameKey) (put-no x z l t)
-    ∙ distinct-cons z (put x l) (has-put-other z x l (same-sym z x ∙ t) ∙ distinct-head z l h) (distinct-put x l (distinct-tail z l h)))
+    ∙ distinct-more sameKey z (put x l) (has-put-other z x l (same-sym z x ∙ t) ∙ distinct-first sameKey z l h) (distinct-put x l (distinct-rest sameKey z l h)))
     (bool-cases (sameKey x z))
 
 -- put twice is put once
@@ -212,7 +152,7 @@ put-put x (z ∷ l) = ⊎-elim
 
 -- of two keys one of which stands the order does not matter
 pub put-commutes : (x y : Entry) (l : List Entry) → hasKey x l ≡ true → sameKey x y ≡ false → put y (put x l) ≡ put x (put y l)
-put-commutes x y [] h n = absurd (clash h (any-none (sameKey x)))
+put-commutes x y [] h n = absurd (clash-bool h (any-none (sameKey x)))
 put-commutes x y (z ∷ l) h n = ⊎-elim
     (λ (t : sameKey x z ≡ true).
     let u : sameKey y x ≡ false = same-sym y x ∙ n in
@@ -222,7 +162,7 @@ put-commutes x y (z ∷ l) h n = ⊎-elim
     (λ (w : sameKey y z ≡ true). rw (put-no x z l t, put-yes y z l w, put-yes y z (put x l) w, put-no x y l n) refl)
     (λ (w : sameKey y z ≡ false).
     rw (put-no x z l t, put-no y z l w, put-no y z (put x l) w, put-no x z (put y l) t)
-    (ap (λ (m : List Entry). z ∷ m) (put-commutes x y l (sym (any-no (sameKey x) z l t) ∙ h) n)))
+    (ap (λ (m : List Entry). z ∷ m) (put-commutes x y l (sym (any-later (sameKey x) z l t) ∙ h) n)))
     (bool-cases (sameKey y z)))
     (bool-cases (sameKey x z))
 

@@ -14,9 +14,10 @@ use Rattle.file.specs.declared.RegisterKey.{RegisterKey}
 use Rattle.file.specs.declared.InvolvedClassical.the-variants.{Set}
 use Rattle.graph.specs.declared.Registers.{Registers}
 use Rattle.graph.specs.Dag.{Entry, entry, entriesOf}
+use Rattle.file.proofs.BoolLaws.{bool-cases}
 use Rattle.registers.specs.Registers.{Maps, hasKey, put, setKeys, registersBy, withEntries}
 use Rattle.registers.specs.RegisterMaps.{Grown, keyed, Fits, Becomes, BothBecome, mapsOf}
-use Rattle.registers.proofs.RegisterLists.{bool-cases, put-grows}
+use Rattle.registers.proofs.RegisterLists.{put-grows}
 use Rattle.registers.proofs.RegisterArrays.{becomes-over, both-are, both-over, count-more, count-same, entries-put, grown-own, grown-put}
 
 -- ---- a Set

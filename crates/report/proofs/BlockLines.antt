@@ -7,7 +7,7 @@ use native.Mathlib.Omega.{arith}
 use lib.Dec.{eqb}
 use lib.ListN.{length, getD, drop, replicate, length-replicate, length-append}
 use lib.Seq.{sets, sets-eq}
-use borrow.Author.Tests.{lt-ltb, eqb-true, eq-eqb}
+use borrow.Author.Tests.{lt-ltb}
 use Rattle.file.specs.Lists.{keep, upTo, member, members, anyOf, isEmpty, onto}
 use Rattle.file.specs.Pairs.{countOf}
 use Rattle.file.specs.declared.Refusal.{Refusal}
@@ -15,7 +15,7 @@ use Rattle.graph.specs.declared.CircuitDag.{CircuitDag}
 use Rattle.graph.specs.Dag.{absent, size, hasEdge}
 use Rattle.graph.specs.Soundness.{sound}
 use Rattle.queries.specs.Reach.{blocking}
-use Rattle.graph.proofs.BoolLaws.{bool-ext, not-true}
+use Rattle.file.proofs.BoolLaws.{not-true, eqb-flip}
 use Rattle.graph.proofs.ListLaws.{member-marked, member-upTo, member-keep}
 use Rattle.queries.proofs.ReachLaws.{keep-same}
 use Rattle.file.specs.declared.Outcome.{Outcome}
@@ -48,9 +48,6 @@ kept-members : (p : ℕ → Bool) (n : ℕ) → keep p (upTo n) ≡ keep (λ v. 
 kept-members p n = keep-same p (λ v. member v (keep p (upTo n))) n
     (λ v l. sym (member-keep p v (upTo n) ∙ and-here (p v) (member v (upTo n)) (member-upTo v n ∙ lt-ltb v n (omega arith))))
 
-eqb-swap : (a b : ℕ) → eqb a b ≡ eqb b a
-eqb-swap a b = bool-ext (eqb a b) (eqb b a) (λ e. eq-eqb b a (sym (eqb-true a b e))) (λ e. eq-eqb a b (sym (eqb-true b a e)))
-
 module _ (g : CircuitDag) (s : sound g ≡ true) where
   abbrev n : ℕ
   n = size g
@@ -77,7 +74,7 @@ module _ (g : CircuitDag) (s : sound g ≡ true) where
 
     block-numbered : (t : ℕ) → t < length (blocks g) → getD (blocks g) t [] ≡ inBlock numbers n t
     block-numbered t h = nth-block g s t ∙ block-listed t ∙ keep-same (λ v. member v (blockOfStep g t)) (λ v. eqb (getD numbers v absent) t) n
-        (λ v l. I .numbers t h v ∙ ap (λ (b : Bool). b && eqb t (getD numbers v absent)) (lt-ltb v n (omega arith)) ∙ eqb-swap t (getD numbers v absent))
+        (λ v l. I .numbers t h v ∙ ap (λ (b : Bool). b && eqb t (getD numbers v absent)) (lt-ltb v n (omega arith)) ∙ eqb-flip t (getD numbers v absent))
 
     lines-same : (l : List (List ℕ)) (t : ℕ) → ((i : ℕ) → i < length l → getD l i [] ≡ inBlock numbers n (t + i)) → linesBy numbers n (length l) t ≡ linesText t l
     unfolding linesBy linesText

@@ -12,16 +12,15 @@ use lib.IntN.{ℤ, pos, negsuc}
 use lib.Signed.{ltZ}
 use lib.ListN.{length, getD, length-append, length-map, List·getD-append, List·getD-eq-default}
 use lib.Seq.{getD-append-add}
-use borrow.Author.Tests.{eq-eqb, ne-eqb, ltb-true, lt-ltb, le-ltb, leb-false}
+use borrow.Author.Tests.{eq-eqb, ne-eqb, ltb-true, lt-ltb, le-ltb, leb-false, not-false as told-true}
 use Rattle.file.specs.Lists.{anyOf, allOf, countFrom}
 use Rattle.file.specs.Records.{front, recordRule, qubitsBy, qubitsOf}
-use Rattle.file.proofs.RecordLaws.{was-true}
 use Rattle.file.specs.declared.Refusal.{Refusal}
 use Rattle.file.specs.declared.Refusal.the-variants.{BadRecord, TooManyNodes, TooManyEdges, TooManyRegisters}
 use Rattle.graph.specs.declared.CircuitDag.{CircuitDag}
 use Rattle.graph.specs.Dag.{absent, empty, noEnd, node, size}
 use Rattle.graph.specs.Soundness.{sound}
-use Rattle.graph.proofs.BoolLaws.{bool-cases, clash-bool, not-true}
+use Rattle.file.proofs.BoolLaws.{bool-cases, clash-bool, not-true}
 use Rattle.graph.proofs.ListLaws.{all-here, all-fails}
 use Rattle.insertion.specs.declared.Answer.the-variants.{Node, Refused}
 use Rattle.insertion.specs.declared.Inserted.{Inserted}
@@ -249,7 +248,7 @@ insert-told g s h P p q = rw h (go (not (recordRule s)) (leb 512 (size g)) (edge
     go false true c d e f = p TooManyNodes
     go false false true d e f = p (TooManyEdges 0)
     go false false false true e f = p (TooManyRegisters 0)
-    go false false false false e f = q (was-true (recordRule s) e) (leb-false 512 (size g) f)
+    go false false false false e f = q (told-true (recordRule s) e) (leb-false 512 (size g) f)
 
 -- the accepted records of s ∷ l, by what the insertion of s gave
 abbrev acceptStep : ℕ → ℕ → List ℕ → List (List ℕ) → Inserted → List Accepted

@@ -15,7 +15,7 @@ use Rattle.file.specs.Lists.{isEmpty, member}
 use Rattle.graph.specs.declared.CircuitDag.{CircuitDag}
 use Rattle.graph.specs.Dag.{size, placeOf, hasEdge}
 use Rattle.graph.specs.Soundness.{placeWithin, sound}
-use Rattle.graph.proofs.BoolLaws.{bool-cases, clash-bool, not-true, not-false}
+use Rattle.file.proofs.BoolLaws.{bool-cases, clash-bool, not-true, not-false}
 use Rattle.walk.specs.Blocks.{start, blocksFrom, blocks, numberFrom}
 use Rattle.walk.specs.Guarantee.{stateAfter, blockOfStep}
 use Rattle.walk.proofs.SoundOrder.{Ordered, sound-ordered}

@@ -11,13 +11,13 @@ use native.Mathlib.Decide.{decLt, ℕ-discrete}
 use lib.Dec.{eqb}
 use lib.ListN.{length, getD, length-set, length-replicate, List·getD-eq-default}
 use lib.Seq.{getD-set-same, getD-set-other}
-use borrow.Author.Tests.{eqb-true, eq-eqb, ne-eqb, ltb-true, lt-ltb}
+use borrow.Author.Tests.{eqb-true, eq-eqb, ne-eqb, ltb-true, lt-ltb, not-true as not-flip}
 use Rattle.file.specs.Lists.{anyOf, keep, isEmpty, member, members, upTo}
 use Rattle.graph.specs.declared.CircuitDag.{CircuitDag}
 use Rattle.graph.specs.Dag.{Edge, edge, size, edgeAt, edgesOf, sameEdge, hasEdge}
 use Rattle.graph.specs.Soundness.{sound}
 use Rattle.queries.specs.Reach.{reachedBy, reached, blocking}
-use Rattle.graph.proofs.BoolLaws.{bool-cases, clash-bool, not-true, not-false, bool-ext, and-l, and-r, and-intro, or-cases, or-inl, or-inr, not-flip, eqb-same}
+use Rattle.file.proofs.BoolLaws.{bool-cases, clash-bool, not-true, not-false, bool-ext, and-l, and-r, and-intro, or-cases, or-inl, or-inr, eqb-same}
 use Rattle.graph.proofs.ListLaws.{any-here, any-later, any-at, at-any, any-upTo, upTo-any, any-members, members-any, member-marked, any-numbers, member-upTo, member-keep}
 use Rattle.insertion.proofs.SafeEnds.{all-same}
 use Rattle.walk.specs.declared.ParallelBlocks.{ParallelBlocks}
@@ -168,14 +168,14 @@ marks-at (x ∷ l) h v = elim (ℕ-discrete v x) [
         (λ (e : eqb w x ≡ false). any-later (eqb w) x l e ∙ m)
         (bool-cases (eqb w x))
 
-joined-at : (s t : List Bool) (v : ℕ) → getD (joined s t) v false ≡ (getD s v false || getD t v false)
+pub joined-at : (s t : List Bool) (v : ℕ) → getD (joined s t) v false ≡ (getD s v false || getD t v false)
 unfolding joined
 joined-at [] t v = refl
 joined-at (b ∷ s) [] v = sym (or-false (getD (b ∷ s) v false))
 joined-at (b ∷ s) (c ∷ t) zero = refl
 joined-at (b ∷ s) (c ∷ t) (suc v) = joined-at s t v
 
-joined-length : (s t : List Bool) → length s ≡ length t → length (joined s t) ≡ length t
+pub joined-length : (s t : List Bool) → length s ≡ length t → length (joined s t) ≡ length t
 unfolding joined
 joined-length [] t h = refl
 joined-length (b ∷ s) [] h = h

@@ -5,14 +5,9 @@ use mathlib.Core.Logic.{_⊎_, inl, inr, ⊎-elim}
 use Prim.Native.Nat.{ℕ, zero, suc, _≤_, _<_, max}
 use native.Mathlib.Omega.{arith}
 use native.Mathlib.Decide.{decLt, ℕ-discrete}
-use lib.Dec.{eqb}
-use borrow.Author.Tests.{eqb-true, eq-eqb}
-use Rattle.graph.proofs.BoolLaws.{bool-cases, clash-bool, not-true, bool-ext, and-l, and-r, and-intro, or-cases, or-inl, or-inr}
+use Rattle.file.proofs.BoolLaws.{bool-cases, clash-bool, not-true, bool-ext, and-l, and-r, and-intro, or-cases, or-inl, or-inr}
 
 -- ---- numbers below a bound
-
-pub eqb-flip : (a b : ℕ) → eqb a b ≡ eqb b a
-eqb-flip a b = bool-ext (eqb a b) (eqb b a) (λ h. eq-eqb b a (sym (eqb-true a b h))) (λ h. eq-eqb a b (sym (eqb-true b a h)))
 
 pub split-lt : (i n : ℕ) → i < suc n → (i ≡ n) ⊎ (i < n)
 split-lt i n h = elim (decLt i n) [ yes l ↦ inr l | no m ↦ inl (omega arith) ]

@@ -10,7 +10,7 @@ use lib.Dec.{eqb}
 use lib.ListN.{length, length-append}
 use borrow.Author.Tests.{ne-eqb}
 use Rattle.file.specs.Lists.{anyOf, member}
-use Rattle.graph.proofs.BoolLaws.{bool-cases, or-inl, or-inr, eqb-same}
+use Rattle.file.proofs.BoolLaws.{bool-cases, or-inl, or-inr, eqb-same}
 use Rattle.graph.proofs.ListLaws.{any-here, any-later, any-snoc}
 use Rattle.walk.specs.Guarantee.{different}
 use Rattle.walk.proofs.Bounds.{count, split-lt, none-count}

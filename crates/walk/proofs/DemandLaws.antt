@@ -14,14 +14,14 @@ use Rattle.file.specs.declared.Refusal.the-variants.{ShortBuffer}
 use Rattle.graph.specs.declared.CircuitDag.{CircuitDag}
 use Rattle.graph.specs.Dag.{absent, size, hasEdge}
 use Rattle.graph.specs.Soundness.{sound}
-use Rattle.graph.proofs.BoolLaws.{bool-cases, clash-bool, not-true, bool-ext, and-l, and-r}
+use Rattle.file.proofs.BoolLaws.{bool-cases, clash-bool, not-true, bool-ext, and-l, and-r, eqb-flip}
 use Rattle.graph.proofs.ListLaws.{any-here, any-later, keep-any, member-keep, length-upTo, upTo-at}
 use Rattle.insertion.specs.Calls.{final}
 use Rattle.insertion.proofs.BuiltLaws.{sound-built}
 use Rattle.walk.specs.declared.BlockCount.the-variants.{Blocks, Refused as NotWalked}
 use Rattle.walk.specs.Blocks.{Walked, blocks, numberFrom, blockNumbers, wholeWalk}
 use Rattle.walk.specs.Guarantee.{Accepted, accepted, takesQubits, operations, Condition, Each, Orders, different, stateAfter, blockOfStep, entry, filled, Guarantee, Demand3}
-use Rattle.walk.proofs.Bounds.{eqb-flip, any, any-elim, any-ext, greatest, greatest-le, count}
+use Rattle.walk.proofs.Bounds.{any, any-elim, any-ext, greatest, greatest-le, count}
 use Rattle.walk.proofs.Heights.{Guarantee as Guaranteed, Keeps, block, steps, number, different as differentIn}
 use Rattle.walk.proofs.Nets.{Net, isOp, clashes, Base}
 use Rattle.walk.proofs.NetRuns.{Kept, kept, net-base}

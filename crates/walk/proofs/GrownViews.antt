@@ -2,26 +2,26 @@
 use mathlib.Core.Path.{_≡_, refl, sym, _∙_, ap}
 use mathlib.Core.Bool.{Bool, true, false, _&&_, _||_, and-false}
 use mathlib.Core.Logic.{⊎-elim}
-use mathlib.Core.List.{List, [], _∷_, _++_, map}
+use mathlib.Core.List.{List, [], _∷_, map}
 use Prim.Native.Nat.{ℕ, _+_, _-_, _≤_, _<_}
 use native.Mathlib.Omega.{arith}
 use native.Mathlib.Decide.{decLt}
 use lib.Dec.{eqb}
-use lib.ListN.{length, getD, take, drop, length-append, length-map, List·getD-append}
-use lib.Seq.{length-take-le, getD-take, getD-append-add}
+use lib.ListN.{length, getD, length-map}
 use Rattle.file.specs.Lists.{anyOf, member, upTo}
 use Rattle.file.specs.Records.{front, kind, qubitForm, label, qubitsOf}
 use Rattle.graph.specs.declared.Edges.{Edges}
 use Rattle.graph.specs.declared.End.{End}
 use Rattle.graph.specs.declared.CircuitDag.{CircuitDag}
 use Rattle.graph.specs.Dag.{Edge, edge, size, edgeAt, sameEdge, hasEdge}
-use Rattle.graph.proofs.BoolLaws.{bool-cases, bool-ext, and-intro, or-cases, or-inl, or-inr}
+use Rattle.file.proofs.BoolLaws.{bool-cases, bool-ext, and-intro, or-cases, or-inl, or-inr}
 use Rattle.graph.proofs.ListLaws.{map-at, any-here, any-later, any-at, at-any, any-upTo, upTo-any}
-use Rattle.links.specs.Links.{nearAll, link, linkBy, appended, withEdges}
+use Rattle.links.specs.Links.{nearAll, link, linkBy, withEdges}
 use Rattle.registers.specs.Registers.{withEntries}
 use Rattle.insertion.specs.Insertion.{facing, placeAfter, linked, registered, commutes, withCommuting, grown}
 use Rattle.insertion.proofs.SafeNodes.{moreNodes}
 use Rattle.insertion.proofs.BuiltLaws.{Safe}
+use Rattle.insertion.proofs.SafeEdges.{appended-old, appended-new}
 use Rattle.walk.proofs.LinkViews.{Sees, Fits, takeBy, link-sees}
 use Rattle.walk.proofs.Nets.{Net, Call, flip, insert}
 
@@ -29,22 +29,6 @@ use Rattle.walk.proofs.Nets.{Net, Call, flip, insert}
 
 abbrev pub edgeIn : Edges → ℕ → ℕ → Bool
 edgeIn es a b = anyOf (sameEdge (edge a b)) (map (edgeAt es) (upTo (es .count)))
-
-module _ (k : ℕ) (new old : List ℕ) (fits : k ≤ length old) where
-  head-length : length (take k old ++ new) ≡ k + length new
-  head-length = length-append (take k old) new ∙ ap (λ (n : ℕ). n + length new) (length-take-le k old fits)
-
-  appended-old : (i : ℕ) → i < k → getD (appended k new old) i 0 ≡ getD old i 0
-  appended-old i h =
-      List·getD-append (take k old ++ new) (drop (length (take k old ++ new)) old) 0 i (omega (arith, head-length))
-      ∙ List·getD-append (take k old) new 0 i (omega (arith, length-take-le k old fits))
-      ∙ getD-take k old i 0 h
-
-  appended-new : (j : ℕ) → j < length new → getD (appended k new old) (k + j) 0 ≡ getD new j 0
-  appended-new j h =
-      List·getD-append (take k old ++ new) (drop (length (take k old ++ new)) old) 0 (k + j) (omega (arith, head-length))
-      ∙ ap (λ (n : ℕ). getD (take k old ++ new) (n + j) 0) (sym (length-take-le k old fits))
-      ∙ getD-append-add (take k old) new j 0
 
 module _ (es : Edges) (new : List Edge) (ff : es .count ≤ length (es .from)) (ft : es .count ≤ length (es .to)) where
   abbrev es′ : Edges

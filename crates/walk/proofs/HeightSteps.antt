@@ -7,8 +7,8 @@ use Prim.Native.Nat.{ℕ, zero, suc, _≤_, _<_}
 use native.Mathlib.Omega.{arith}
 use lib.Dec.{eqb}
 use lib.ListN.{length}
-use borrow.Author.Tests.{ne-eqb}
-use Rattle.graph.proofs.BoolLaws.{bool-cases, clash-bool, bool-ext, and-l, and-r, and-intro, or-cases, or-inl, or-inr, not-flip, flip-not}
+use borrow.Author.Tests.{ne-eqb, not-true as not-flip}
+use Rattle.file.proofs.BoolLaws.{bool-cases, clash-bool, bool-ext, and-l, and-r, and-intro, or-cases, or-inl, or-inr, flip-not}
 use Rattle.walk.proofs.Bounds.{any, any-intro, any-elim, any-and, and-any}
 use Rattle.walk.proofs.Heights.{Reach, one, more, Upward, reach, reach-sound, reach-complete, reach-up, blocks, block, done, follow, join, empty, height-low, block-height, cur-suc}
 use Rattle.walk.proofs.Nets.{reach-snoc}

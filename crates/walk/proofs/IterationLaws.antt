@@ -12,7 +12,7 @@ use Rattle.file.specs.Lists.{anyOf, allOf, isEmpty, member, members, markedFrom
 use Rattle.graph.specs.declared.CircuitDag.{CircuitDag}
 use Rattle.graph.specs.Dag.{size}
 use Rattle.graph.specs.Soundness.{sound}
-use Rattle.graph.proofs.BoolLaws.{clash-bool, bool-ext, not-true, and-l, and-r, and-intro}
+use Rattle.file.proofs.BoolLaws.{clash-bool, bool-ext, not-true, and-l, and-r, and-intro}
 use Rattle.graph.proofs.ListLaws.{members-all, member-marked}
 use Rattle.queries.proofs.BufferLaws.{keep-low}
 use Rattle.insertion.proofs.SafeEnds.{all-same}

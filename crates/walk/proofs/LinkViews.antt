@@ -11,19 +11,19 @@ use native.Mathlib.Decide.{decLt, ℕ-discrete}
 use lib.Dec.{eqb}
 use lib.ListN.{length, getD, set, replicate, length-set, length-replicate, List·getD-eq-default, List·getD-map}
 use lib.Seq.{getD-set-same, getD-set-other}
-use borrow.Author.Tests.{eqb-true, ne-eqb}
+use borrow.Author.Tests.{eqb-true, ne-eqb, not-true as not-flip}
 use Rattle.file.specs.Lists.{anyOf, distinct, isEmpty, member}
 use Rattle.file.specs.declared.InvolvedQubits.{InvolvedQubits}
 use Rattle.file.specs.declared.InvolvedQubits.the-variants.{None, All, Set}
 use Rattle.graph.specs.declared.End.{End}
 use Rattle.graph.specs.Dag.{absent, present, orElse, node, atQubit}
-use Rattle.graph.proofs.BoolLaws.{bool-cases, clash-bool, not-true, bool-ext, and-l, and-r, and-intro, or-cases, or-inl, or-inr, not-flip, flip-not, eqb-same}
-use Rattle.graph.proofs.ListLaws.{any-here, any-later, any-at, at-any, any-snoc}
+use Rattle.file.proofs.BoolLaws.{bool-cases, clash-bool, not-true, bool-ext, and-l, and-r, and-intro, or-cases, or-inl, or-inr, flip-not, eqb-same, eqb-flip}
+use Rattle.graph.proofs.ListLaws.{any-here, any-later, any-at, at-any, any-snoc, distinct-first, distinct-rest}
 use Rattle.links.specs.Links.{Linked, nearAll, source, nearAfter, noQubit, qubitsFrom, qubits, linkQubits, linkSet, mapped, linkAll, linkBy}
 use Rattle.links.proofs.QubitLaws.{qubits-ascend}
 use Rattle.links.proofs.LinkLaws.{addPresent, linkOne, ascend-distinct, set-entries, set-outside, farEntry}
 use Rattle.insertion.proofs.SafeEnds.{all-same}
-use Rattle.walk.proofs.Bounds.{eqb-flip, any, any-intro, any-elim, any-and, and-any, any-ext, any-none, none-any}
+use Rattle.walk.proofs.Bounds.{any, any-intro, any-elim, any-and, and-any, any-ext, any-none, none-any}
 use Rattle.walk.proofs.BlockSteps.{any-list, not-empty, empty-not}
 use Rattle.walk.proofs.Nets.{Net, Take, nothing, every, these, is, orElse as else, present as isSome, or, source as sourceIn, backThese, backEvery, backNothing, back, noQubits}
 
@@ -114,17 +114,6 @@ member-add a u l = ⊎-elim
     (λ (p : present u ≡ false). rw p (sym (or-false (member a l))))
     (bool-cases (present u))
 
-distinct-head : (q : ℕ) (l : List ℕ) → distinct eqb (q ∷ l) ≡ true → member q l ≡ false
-unfolding distinct
-distinct-head q l h = ⊎-elim
-    (λ (e : member q l ≡ true). absurd (clash-bool (rw (distinct, e) at h) refl))
-    (λ (e : member q l ≡ false). e)
-    (bool-cases (member q l))
-
-distinct-tail : (q : ℕ) (l : List ℕ) → distinct eqb (q ∷ l) ≡ true → distinct eqb l ≡ true
-unfolding distinct
-distinct-tail q l h = let e = distinct-head q l h in rw (distinct, e) at h
-
 -- ---- the qubits of a mask
 
 qubits-in : (k j m q : ℕ) → member q (qubitsFrom k j m) ≡ true → q < j + k
@@ -170,8 +159,8 @@ module _ (v : ℕ) where
       → member a (linkQubits nearAll qs v x .others) ≡ (member a (x .others) || anyOf (λ q. isAt (source (x .near) q) a) qs)
   unfolding linkQubits anyOf
   link-others [] x d a = sym (or-false (member a (x .others)))
-  link-others (q ∷ qs) x d a = link-others qs (linkOne nearAll v q x) (distinct-tail q qs d) a
-      ∙ (λ i. member-add a (source (x .near) q) (x .others) i || others-other (x .near) q a qs (distinct-head q qs d) i)
+  link-others (q ∷ qs) x d a = link-others qs (linkOne nearAll v q x) (distinct-rest eqb q qs d) a
+      ∙ (λ i. member-add a (source (x .near) q) (x .others) i || others-other (x .near) q a qs (distinct-first eqb q qs d) i)
       ∙ or-assoc (member a (x .others)) (isAt (source (x .near) q) a) _
       ∙ ap (λ (b : Bool). member a (x .others) || b) (sym (any-cons (λ q. isAt (source (x .near) q) a) q qs))
 
@@ -218,8 +207,8 @@ module _ (v : ℕ) where
       ≡ ((eqb u v && not (isEmpty qs)) || (getD (x .near .block) u false && not (anyOf (λ q. isAt (source (x .near) q) u) qs)))
   unfolding linkQubits anyOf
   link-block [] x d l n s u = nil-table (eqb u v) (getD (x .near .block) u false)
-  link-block (q ∷ qs) x d l n s u = link-block qs (linkOne nearAll v q x) (distinct-tail q qs d) l length-one after u
-      ∙ (λ i. (eqb u v && not (isEmpty qs)) || (block-one (x .near) q u l n (s q) i && not (others-other (x .near) q u qs (distinct-head q qs d) i)))
+  link-block (q ∷ qs) x d l n s u = link-block qs (linkOne nearAll v q x) (distinct-rest eqb q qs d) l length-one after u
+      ∙ (λ i. (eqb u v && not (isEmpty qs)) || (block-one (x .near) q u l n (s q) i && not (others-other (x .near) q u qs (distinct-first eqb q qs d) i)))
       ∙ tail-table (eqb u v) (not (isEmpty qs)) (getD (x .near .block) u false) (isAt (source (x .near) q) u) (anyOf (λ j. isAt (source (x .near) j) u) qs) (some-in qs)
       ∙ ap (λ (b : Bool). (eqb u v && true) || (getD (x .near .block) u false && not b)) (sym (any-cons (λ j. isAt (source (x .near) j) u) q qs))
     where

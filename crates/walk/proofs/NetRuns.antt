@@ -9,7 +9,7 @@ use native.Mathlib.Omega.{arith}
 use lib.Dec.{eqb, ltb}
 use lib.ListN.{length}
 use borrow.Author.Tests.{eq-eqb, ne-eqb, lt-ltb}
-use Rattle.graph.proofs.BoolLaws.{bool-cases, clash-bool, or-cases, or-inl, or-inr}
+use Rattle.file.proofs.BoolLaws.{bool-cases, clash-bool, or-cases, or-inl, or-inr}
 use Rattle.walk.proofs.Bounds.{any, and-any, any-and}
 use Rattle.walk.proofs.Heights.{Guarantee, guarantee}
 use Rattle.walk.proofs.Nets.{Net, Take, nothing, every, these, on, isOp, isAll, clashes, flip, back, insert, run, ranks, empty, Call, NonEmpty, NonEmpties, Base, Last, All}

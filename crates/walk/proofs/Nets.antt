@@ -9,8 +9,8 @@ use Prim.Native.Nat.{ℕ, suc, _<_}
 use native.Mathlib.Omega.{arith}
 use native.Mathlib.Decide.{ℕ-discrete}
 use lib.Dec.{eqb, ltb}
-use borrow.Author.Tests.{eqb-true, eq-eqb, ne-eqb, ltb-true, lt-ltb}
-use Rattle.graph.proofs.BoolLaws.{bool-cases, clash-bool, not-true, not-false, and-l, and-r, and-intro, or-cases, or-inl, or-inr, not-flip, flip-not, eqb-same}
+use borrow.Author.Tests.{eqb-true, eq-eqb, ne-eqb, ltb-true, lt-ltb, not-true as not-flip}
+use Rattle.file.proofs.BoolLaws.{bool-cases, clash-bool, not-true, not-false, and-l, and-r, and-intro, or-cases, or-inl, or-inr, flip-not, eqb-same}
 use Rattle.walk.proofs.Bounds.{any, any-intro, any-elim, any-and, and-any, none-any}
 use Rattle.walk.proofs.Heights.{Reach, one, more}
 

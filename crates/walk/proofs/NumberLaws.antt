@@ -9,7 +9,7 @@ use native.Mathlib.Omega.{arith}
 use Rattle.graph.specs.declared.CircuitDag.{CircuitDag}
 use Rattle.graph.specs.Dag.{size}
 use Rattle.graph.specs.Soundness.{sound}
-use Rattle.graph.proofs.BoolLaws.{bool-cases, clash-bool, not-true, not-false, and-r, and-intro}
+use Rattle.file.proofs.BoolLaws.{bool-cases, clash-bool, not-true, not-false, and-r, and-intro}
 use Rattle.walk.specs.Blocks.{blocks, numberFrom}
 use Rattle.walk.proofs.Bounds.{any, any-elim, any-none, and-any, any-intro, split-lt, greatest, greatest-le, greatest-at}
 use Rattle.walk.proofs.Heights.{Reach, one, more, none, join, follow, empty-no, join-cases, join-inl, join-inr, block, done, cur-zero, cur-suc, exe-zero, exe-suc, free-intro}

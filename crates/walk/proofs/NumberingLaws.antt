@@ -12,7 +12,7 @@ use lib.ListN.{length, getD, set, drop, length-set}
 use lib.Seq.{getD-set-same, getD-set-other, set-getD, set-at, drop-cons}
 use borrow.Author.Tests.{ltb-true, lt-ltb}
 use Rattle.file.specs.Lists.{onto, upTo}
-use Rattle.graph.proofs.BoolLaws.{clash-bool, split-lt}
+use Rattle.file.proofs.BoolLaws.{clash-bool, split-lt}
 use Rattle.graph.proofs.ListLaws.{length-upTo, upTo-suc}
 use Rattle.walk.specs.Numbering.{at, following, Joined, Above, Swept, Rises, Settled, Begun, Zeroed, Counted}
 

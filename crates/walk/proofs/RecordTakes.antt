@@ -12,7 +12,7 @@ use borrow.Author.Tests.{eqb-false, ltb-true, leb-true}
 use Rattle.file.specs.Lists.{anyOf, allOf, keep, member}
 use Rattle.file.specs.Pairs.{numberAt}
 use Rattle.file.specs.Records.{front, kind, qubitForm, registerForm, mask, definitionRule, qubitRule, tailRule, recordRule, qubitsBy, qubitsOf}
-use Rattle.graph.proofs.BoolLaws.{bool-cases, clash-bool, not-true, and-l, and-r, and-intro, or-inl, or-inr, flip-not}
+use Rattle.file.proofs.BoolLaws.{bool-cases, clash-bool, not-true, and-l, and-r, and-intro, or-inl, or-inr, flip-not}
 use Rattle.graph.proofs.ListLaws.{all-at, none-at, keep-any}
 use Rattle.links.specs.Links.{qubits}
 use Rattle.links.proofs.QubitLaws.{qubits-next}

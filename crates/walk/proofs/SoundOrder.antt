@@ -8,12 +8,12 @@ use lib.Dec.{eqb, ltb, leb}
 use lib.IntN.{ℤ}
 use lib.Signed.{ltZ}
 use lib.ListN.{getD}
-use borrow.Author.Tests.{eqb-true, eq-eqb, ltb-true, leb-true}
+use borrow.Author.Tests.{eqb-true, eq-eqb, ltb-true, leb-true, not-true as not-flip}
 use Rattle.file.specs.Lists.{anyOf, allOf, distinct, members, upTo}
 use Rattle.graph.specs.declared.CircuitDag.{CircuitDag}
 use Rattle.graph.specs.Dag.{Edge, Entry, size, edgesOf, edgeAt, placeOf, commutingOf, entriesOf, sameEdge}
 use Rattle.graph.specs.Soundness.{named, ifPresent, operationAt, samePlace, placeWithin, sound}
-use Rattle.graph.proofs.BoolLaws.{clash-bool, and-l, and-r, not-flip}
+use Rattle.file.proofs.BoolLaws.{clash-bool, and-l, and-r}
 use Rattle.graph.proofs.ListLaws.{all-upTo, upTo-any, all-members}
 use Rattle.graph.proofs.SoundnessLaws.{and3, sound-clauses, places-map, belowOf, edgeBelow, edgeFits, firstFits, all-left}
 

@@ -17,12 +17,12 @@ use Rattle.graph.specs.declared.CircuitDag.{CircuitDag}
 use Rattle.graph.specs.Dag.{size, hasEdge}
 use Rattle.graph.specs.Soundness.{sound}
 use Rattle.queries.specs.Reach.{blocking}
-use Rattle.graph.proofs.BoolLaws.{bool-cases, clash-bool, bool-ext, not-true, not-false, and-l, and-r, and-intro, or-cases, or-inl, or-inr, flip-not, split-lt}
+use Rattle.file.proofs.BoolLaws.{bool-cases, clash-bool, bool-ext, not-true, not-false, and-l, and-r, and-intro, or-cases, or-inl, or-inr, flip-not, split-lt}
 use Rattle.graph.proofs.ListLaws.{members-any, any-members, member-marked}
 use Rattle.walk.specs.Blocks.{joined, marks}
 use Rattle.walk.specs.Numbering.{at, Joined, Above, Rises, Settled, Begun, Reaching, Freed, freeAfter}
 use Rattle.walk.proofs.Bounds.{and-any, any-and}
-use Rattle.walk.proofs.BlockSteps.{edge-at, at-edge, marks-length, marks-at}
+use Rattle.walk.proofs.BlockSteps.{edge-at, at-edge, marks-length, marks-at, joined-at, joined-length}
 use Rattle.walk.proofs.BlockLaws.{W, rank, upward}
 use Rattle.walk.proofs.BlockingLaws.{isBlocked, blocked-by-edges}
 
@@ -42,23 +42,6 @@ mark-stored l t x v h = elim (ℕ-discrete v t) [
 ]
 
 -- ---- two sets joined
-
-joined-at : (s t : List Bool) (v : ℕ) → getD (joined s t) v false ≡ (getD s v false || getD t v false)
-unfolding joined
-joined-at [] t v = refl
-joined-at (b ∷ s) [] v = sym (or-false (getD (b ∷ s) v false))
-  where
-    or-false : (b : Bool) → (b || false) ≡ b
-    or-false true = refl
-    or-false false = refl
-joined-at (b ∷ s) (c ∷ t) zero = refl
-joined-at (b ∷ s) (c ∷ t) (suc v) = joined-at s t v
-
-pub joined-length : (s t : List Bool) → length s ≡ length t → length (joined s t) ≡ length t
-unfolding joined
-joined-length [] t h = refl
-joined-length (b ∷ s) [] h = h
-joined-length (b ∷ s) (c ∷ t) h = ap suc (joined-length s t (omega arith))
 
 module _ (a b : List Bool) where
   pub record Joining (all : List Bool) (v : ℕ) : Type 0 where

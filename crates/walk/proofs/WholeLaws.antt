@@ -8,13 +8,13 @@ use native.Mathlib.Omega.{arith}
 use native.Mathlib.Decide.{decLt}
 use lib.Dec.{ltb}
 use lib.ListN.{length, List·getD-eq-default}
-use borrow.Author.Tests.{ltb-true, lt-ltb, le-ltb}
+use borrow.Author.Tests.{ltb-true, lt-ltb, le-ltb, not-true as not-flip}
 use Rattle.file.specs.Lists.{isEmpty, onto, upTo}
 use Rattle.file.specs.declared.Refusal.the-variants.{ShortBuffer, Unsound}
 use Rattle.graph.specs.declared.CircuitDag.{CircuitDag}
 use Rattle.graph.specs.Dag.{size}
 use Rattle.graph.specs.Soundness.{sound}
-use Rattle.graph.proofs.BoolLaws.{bool-cases, clash-bool, not-true, not-false, and-intro, flip-not, not-flip}
+use Rattle.file.proofs.BoolLaws.{bool-cases, clash-bool, not-true, not-false, and-intro, flip-not}
 use Rattle.graph.proofs.ListLaws.{upTo-ext}
 use Rattle.graph.proofs.SoundnessLaws.{sound-told}
 use Rattle.walk.specs.declared.BlockCount.the-variants.{Blocks, Refused as NotWalked}

@@ -1,5 +1,6 @@
 -- `file::records::parse_record` meets its contract. Assumes nothing.
-use Rattle.file.proofs.RecordLaws.{too-short, bad-end, bad-kind, bad-qubits, bad-tail, good, was-true, was-false}
+use borrow.Author.Tests.{not-true, not-false}
+use Rattle.file.proofs.RecordLaws.{too-short, bad-end, bad-kind, bad-qubits, bad-tail, good}
 use mathlib.Core.Path.{sym, _∙_}
 use borrow.Author.Needs.{needs}
 use Rattle.file.proofs.records.parse_record.Statement.{statement}
@@ -27,7 +28,7 @@ kind-fits-requires : tie.Need-kind-fits-requires
 kind-fits-requires c κs = search needs
 
 returns-3 : tie.Need-returns-3
-returns-3 c = bad-kind _ (c .before .before .before .before .before .before .before .if1 .left) (c .before .before .before .before .before .if2 .left) (sym (c .before .kind-fits .ensures) ∙ was-false _ (c .if3 .taken))
+returns-3 c = bad-kind _ (c .before .before .before .before .before .before .before .if1 .left) (c .before .before .before .before .before .if2 .left) (sym (c .before .kind-fits .ensures) ∙ not-true _ (c .if3 .taken))
 
 read-mask-requires : tie.Need-read-mask-requires
 read-mask-requires c κs = search needs
@@ -36,13 +37,13 @@ qubits-fit-requires : tie.Need-qubits-fit-requires
 qubits-fit-requires c κs = search needs
 
 returns-4 : tie.Need-returns-4
-returns-4 c = bad-qubits _ (c .before .before .before .before .before .before .before .before .before .before .if1 .left) (c .before .before .before .before .before .before .before .before .if2 .left) _ (c .before .before .read-mask .ensures) (sym (c .before .before .before .before .kind-fits .ensures) ∙ was-true _ (c .before .before .before .if3 .left)) (sym (c .before .qubits-fit .ensures) ∙ was-false _ (c .if4 .taken))
+returns-4 c = bad-qubits _ (c .before .before .before .before .before .before .before .before .before .before .if1 .left) (c .before .before .before .before .before .before .before .before .if2 .left) _ (c .before .before .read-mask .ensures) (sym (c .before .before .before .before .kind-fits .ensures) ∙ not-false _ (c .before .before .before .if3 .left)) (sym (c .before .qubits-fit .ensures) ∙ not-true _ (c .if4 .taken))
 
 tail-fits-requires : tie.Need-tail-fits-requires
 tail-fits-requires c κs = search needs
 
 returns-5 : tie.Need-returns-5
-returns-5 c = bad-tail _ (c .before .before .before .before .before .before .before .before .before .before .before .before .if1 .left) (c .before .before .before .before .before .before .before .before .before .before .if2 .left) _ (c .before .before .before .before .read-mask .ensures) (sym (c .before .before .before .before .before .before .kind-fits .ensures) ∙ was-true _ (c .before .before .before .before .before .if3 .left)) (sym (c .before .before .before .qubits-fit .ensures) ∙ was-true _ (c .before .before .if4 .left)) (sym (c .before .tail-fits .ensures) ∙ was-false _ (c .if5 .taken))
+returns-5 c = bad-tail _ (c .before .before .before .before .before .before .before .before .before .before .before .before .if1 .left) (c .before .before .before .before .before .before .before .before .before .before .if2 .left) _ (c .before .before .before .before .read-mask .ensures) (sym (c .before .before .before .before .before .before .kind-fits .ensures) ∙ not-false _ (c .before .before .before .before .before .if3 .left)) (sym (c .before .before .before .qubits-fit .ensures) ∙ not-false _ (c .before .before .if4 .left)) (sym (c .before .tail-fits .ensures) ∙ not-true _ (c .if5 .taken))
 
 read-u16-requires : tie.Need-read-u16-requires
 read-u16-requires c κs = search needs
@@ -57,7 +58,7 @@ involved-classical-requires : tie.Need-involved-classical-requires
 involved-classical-requires c κs = search needs
 
 returns-6 : tie.Need-returns-6
-returns-6 c = good _ (c .before .before .before .before .before .before .before .before .before .before .before .before .before .before .before .if1 .left) (c .before .before .before .before .before .before .before .before .before .before .before .before .before .if2 .left) _ (c .before .before .before .before .before .before .before .read-mask .ensures) (sym (c .before .before .before .before .before .before .before .before .before .kind-fits .ensures) ∙ was-true _ (c .before .before .before .before .before .before .before .before .if3 .left)) (sym (c .before .before .before .before .before .before .qubits-fit .ensures) ∙ was-true _ (c .before .before .before .before .before .if4 .left)) _ _ _ (sym (c .before .before .before .before .tail-fits .ensures) ∙ was-true _ (c .before .before .before .if5 .left)) (c .before .involved-qubits .ensures) (c .involved-classical .ensures) (c .before .before .read-u16 .ensures .0)
+returns-6 c = good _ (c .before .before .before .before .before .before .before .before .before .before .before .before .before .before .before .if1 .left) (c .before .before .before .before .before .before .before .before .before .before .before .before .before .if2 .left) _ (c .before .before .before .before .before .before .before .read-mask .ensures) (sym (c .before .before .before .before .before .before .before .before .before .kind-fits .ensures) ∙ not-false _ (c .before .before .before .before .before .before .before .before .if3 .left)) (sym (c .before .before .before .before .before .before .qubits-fit .ensures) ∙ not-false _ (c .before .before .before .before .before .if4 .left)) _ _ _ (sym (c .before .before .before .before .tail-fits .ensures) ∙ not-false _ (c .before .before .before .if5 .left)) (c .before .involved-qubits .ensures) (c .involved-classical .ensures) (c .before .before .read-u16 .ensures .0)
 
 pub parse-record-spec : {M : Type 1} → statement M
 parse-record-spec =

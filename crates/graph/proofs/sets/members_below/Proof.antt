@@ -3,7 +3,7 @@ use mathlib.Core.Path.{refl}
 use Prim.Native.Nat.{_-_}
 use native.Mathlib.Omega.{arith}
 use borrow.Author.Needs.{needs}
-use Rattle.graph.proofs.BoolLaws.{clash-bool}
+use Rattle.file.proofs.BoolLaws.{clash-bool}
 use Rattle.graph.proofs.CheckLaws.{BlockPassed, block-more, block-done}
 use Rattle.graph.proofs.sets.members_below.Statement.{statement}
 use Rattle.graph.proofs.sets.members_below.Tie as tie

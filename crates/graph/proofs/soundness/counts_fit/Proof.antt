@@ -5,7 +5,7 @@ use Prim.Native.Nat.{ℕ, _+_, _-_, _≤_, _<_}
 use native.Mathlib.Omega.{arith}
 use lib.Dec.{eqb}
 use borrow.Author.Tests.{le-leb, lt-leb, eq-eqb, ne-eqb, eqb-true}
-use Rattle.graph.proofs.BoolLaws.{bool-ext}
+use Rattle.file.proofs.BoolLaws.{bool-ext}
 use Rattle.graph.proofs.soundness.counts_fit.Statement.{statement}
 use Rattle.graph.proofs.soundness.counts_fit.Tie as tie
 

@@ -5,7 +5,7 @@ use Prim.Native.Nat.{ℕ, _-_, _<_}
 use native.Mathlib.Omega.{arith}
 use borrow.Author.Tests.{not-true, not-false}
 use borrow.Author.Needs.{needs}
-use Rattle.graph.proofs.BoolLaws.{clash-bool}
+use Rattle.file.proofs.BoolLaws.{clash-bool}
 use Rattle.graph.proofs.BitLaws.{unset}
 use Rattle.graph.proofs.CheckLaws.{EdgesPassed, fromAt, toAt, edgeTest, from-low, to-low, edges-begin, edge-unfit, edge-twice, edge-more, edges-done, targets-done}
 use Rattle.graph.proofs.soundness.edges_fit.Statement.{statement}

@@ -3,7 +3,7 @@ use mathlib.Core.Path.{refl}
 use Prim.Native.Nat.{_-_}
 use native.Mathlib.Omega.{arith}
 use borrow.Author.Needs.{needs}
-use Rattle.graph.proofs.BoolLaws.{clash-bool}
+use Rattle.file.proofs.BoolLaws.{clash-bool}
 use Rattle.graph.proofs.CheckLaws.{FirstPassed, first-more, first-done}
 use Rattle.graph.proofs.soundness.first_fits.Statement.{statement}
 use Rattle.graph.proofs.soundness.first_fits.Tie as tie

@@ -1,5 +1,5 @@
 use mathlib.Core.Path.{_≡_}
-use Rattle.graph.proofs.BoolLaws.{split-lt}
+use Rattle.file.proofs.BoolLaws.{split-lt}
 use Prim.Native.Nat.{_-_, _<_}
 use Rattle.queries.proofs.MarkLaws.{Sweeping, sweeps-none, sweeps-one, sweeps-all}
 use mathlib.Core.Logic.{⊎-elim, inl, inr}
