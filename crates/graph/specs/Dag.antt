@@ -96,7 +96,7 @@ edgeAt es i = edge (getD (es .from) i 0) (getD (es .to) i 0)
 abbrev pub entryAt : Registers → ℕ → Entry
 entryAt r i = entry (getD (r .name) i 0) (getD (r .index) i 0) (getD (r .node) i 0)
 
--- what stands in the arrays
+-- the nodes, by their numbers
 abbrev pub nodesOf : CircuitDag → List Node
 nodesOf g = map (nodeAt g) (upTo (size g))
 

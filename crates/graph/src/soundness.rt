@@ -310,7 +310,7 @@ fn commuting_fits(c: Commuting, n: usize) -> bool
     true
 }
 
-// A key's cell: apart for eight names with 256 indices each.
+// A key's cell: names that differ modulo 8, with indices below 256, have cells of their own.
 fn cell_of(name: u8, index: u16) -> usize
     ensures { λ r. ⌜ r ≡ (name * 256 + index) % 2048 ⌝ }
 {
@@ -380,7 +380,7 @@ fn registers_fit(r: Registers, n: usize) -> bool
     true
 }
 
-// A register map that a sound graph of n nodes may have.
+// Whether a map keeps the clauses on a register map of a graph with n nodes.
 pub fn is_register_map(r: Registers, n: usize) -> bool
     ensures { λ res. ⌜ res ≡ registerMapRule n r ⌝ }
 {

@@ -14,7 +14,8 @@ pub extern "C" fn sawhekonu_execution_blocked(
     node: u16,
     buffer: &mut [u16],
 ) -> HostAnswer
-    ensures { λ r. ⌜ record { answer = r; buffer = now (buffer .exit) } ≡ lent (executionBlocked dag (now (executed .entry)) node (now (buffer .entry))) ⌝ }
+    ensures { λ r. ⌜ record { answer = r; buffer = now (buffer .exit) }
+        ≡ lent (executionBlocked dag (now (executed .entry)) node (now (buffer .entry))) ⌝ }
 {
     let x = queries::execution_blocked(dag, executed, NodeIndex(node), buffer);
     of_query(x)
@@ -27,7 +28,8 @@ pub extern "C" fn sawhekonu_blocking_predecessors(
     node: u16,
     buffer: &mut [u16],
 ) -> HostAnswer
-    ensures { λ r. ⌜ record { answer = r; buffer = now (buffer .exit) } ≡ lent (blockingPredecessors dag (now (executed .entry)) node (now (buffer .entry))) ⌝ }
+    ensures { λ r. ⌜ record { answer = r; buffer = now (buffer .exit) }
+        ≡ lent (blockingPredecessors dag (now (executed .entry)) node (now (buffer .entry))) ⌝ }
 {
     let x = queries::blocking_predecessors(dag, executed, NodeIndex(node), buffer);
     of_query(x)
@@ -49,7 +51,8 @@ pub extern "C" fn sawhekonu_new_front_layer(
     node: u16,
     buffer: &mut [u16],
 ) -> HostAnswer
-    ensures { λ r. ⌜ record { answer = r; buffer = now (buffer .exit) } ≡ lent (newFrontLayer dag (now (executed .entry)) (now (layer .entry)) node (now (buffer .entry))) ⌝ }
+    ensures { λ r. ⌜ record { answer = r; buffer = now (buffer .exit) }
+        ≡ lent (newFrontLayer dag (now (executed .entry)) (now (layer .entry)) node (now (buffer .entry))) ⌝ }
 {
     let x = queries::new_front_layer(dag, executed, layer, NodeIndex(node), buffer);
     of_query(x)

@@ -39,7 +39,7 @@ fn place_after(front: bool, k: usize) -> i16
     k as i16
 }
 
-// One more where it is so.
+// The count with one more, where there is one.
 fn one_more(n: usize, more: bool) -> usize
     requires { ⌜ n ≤ 512 ⌝ }
     ensures { λ r. ⌜ r ≡ cond more (n + 1) n ⌝ }

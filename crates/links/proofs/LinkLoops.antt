@@ -1,4 +1,4 @@
--- The loops of module links: their invariants over plain values, and that each turn keeps them. Assumes nothing.
+-- The loops of module ends: their invariants over plain values, and that each turn keeps them. Assumes nothing.
 use mathlib.Core.Path.{_≡_, refl, sym, _∙_}
 use mathlib.Core.Bool.{Bool, true, false, cond, not}
 use mathlib.Core.List.{List, [], _∷_, _++_, map, append-assoc}

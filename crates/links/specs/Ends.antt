@@ -1,5 +1,5 @@
--- One end of the graph as an insertion holds it: plain arrays beside a few numbers. What the functions of module ends
--- leave in them, by the rules of Links. Assumes nothing.
+-- What private functions promise: one end of the graph as an insertion holds it, plain arrays beside a few numbers, and what is left in
+-- them by the rules of Links. Assumes nothing.
 use mathlib.Core.Path.{_≡_}
 use mathlib.Core.Bool.{Bool, true, false, cond}
 use mathlib.Core.List.{List, [], map}
@@ -36,7 +36,7 @@ endState l = record { all = node (getD l 0 0); top = getD l 1 0; members = getD 
 abbrev pub several : ℕ
 several = 65534
 
--- a node that is the known members is all that the block has
+-- where the block is known to have one node alone, it has that node and no other
 abbrev pub Only : ℕ → List Bool → Type 0
 Only members block = members < 512 → block ≡ set (replicate 512 false) members true
 
@@ -48,6 +48,10 @@ endWith node all block = record { node = node; all = all; block = block }
 abbrev pub endOf : List ℕ → EndState → List Bool → End
 endOf node s block = endWith node (s .all) block
 
+-- the end that is lent, as its numbers, map and block
+abbrev pub lentEnd : List ℕ → List ℕ → List Bool → End
+lentEnd numbers node block = endOf node (endState numbers) block
+
 -- the arrays and numbers of one end, on a graph of n nodes
 pub record EndFits (n : ℕ) (node : List ℕ) (s : EndState) (block : List Bool) : Type 0 where
   pub nodes : length node ≡ 64
@@ -58,6 +62,10 @@ pub record EndFits (n : ℕ) (node : List ℕ) (s : EndState) (block : List Bool
   pub top : (q : ℕ) → s .top ≤ q → getD node q absent ≡ absent
   pub some : present (s .members) ≡ anyOf (λ b. b) block
   pub only : Only (s .members) block
+
+-- .. of the end that is lent
+abbrev pub LentFits : ℕ → List ℕ → List ℕ → List Bool → Type 0
+LentFits n numbers node block = EndFits n node (endState numbers) block
 
 -- the first r of the others after the node s, which may be absent, came to the first k
 pub record OtherAdded (s k : ℕ) (before after : List ℕ) (r : ℕ) : Type 0 where
@@ -102,11 +110,19 @@ pub record Joined : Type 0 where
   pub near : EndState
   pub far : EndState
 
+-- .. by the numbers that are lent
+abbrev pub joined : ℕ → List ℕ → List ℕ → Joined
+joined k near far = record { count = k; near = endState near; far = endState far }
+
 -- the same, seen from the graph's two ends
 pub record JoinedEnds : Type 0 where
   pub count : ℕ
   pub first : EndState
   pub last : EndState
+
+-- .. by the numbers that are lent
+abbrev pub joinedEnds : ℕ → List ℕ → List ℕ → JoinedEnds
+joinedEnds k first last = record { count = k; first = endState first; last = endState last }
 
 -- near and far after the new node joined them: the ends and others of the rule's x, on a graph of n nodes
 pub record JoinedBy (x : Linked) (n : ℕ) (r : Joined) (nearNode farNode : List ℕ) (nearBlock farBlock : List Bool) (others : List ℕ) : Type 0 where
@@ -143,6 +159,10 @@ pub record LinkedRecord : Type 0 where
   pub edges : ℕ
   pub first : EndState
   pub last : EndState
+
+-- .. by the numbers that are lent
+abbrev pub linkedRecord : ℕ → List ℕ → List ℕ → LinkedRecord
+linkedRecord edges first last = record { edges = edges; first = endState first; last = endState last }
 
 -- the ends and edges after node v joined them by the rule's x; where the edges would pass 2,048 only their count is said
 pub record RecordLinked (front : Bool) (v : ℕ) (x : Linked) (edges : Edges) (r : LinkedRecord) (from to firstNode lastNode : List ℕ) (firstBlock lastBlock : List Bool) : Type 0 where

@@ -9,7 +9,7 @@ ghost use lib.Count.{trailingZeros};
 ghost use Rattle.file.specs.Lists.{member, anyOf};
 ghost use Rattle.graph.specs.Dag.{absent, present, orElse};
 ghost use Rattle.links.specs.Links.{nearAll, qubits, linkSet, linkAll, linkBy, link};
-ghost use Rattle.links.specs.Ends.{entryAt, withEntry, endState, endOf, EndFits, Only, OtherAdded, SetLinked, AllLinked, StateGrown, nearState, farState, JoinedBy, JoinedEndsBy, EdgesAdded};
+ghost use Rattle.links.specs.Ends.{entryAt, withEntry, endState, Only, OtherAdded, SetLinked, AllLinked, StateGrown, nearState, farState, JoinedBy, JoinedEndsBy, EdgesAdded, lentEnd, LentFits, joined, joinedEnds};
 ghost use Rattle.links.specs.Links.{linkAt};
 use file::InvolvedQubits;
 use graph::NodeIndex;
@@ -24,7 +24,7 @@ const TOP: usize = 1;
 // .. and what is known of the block: 65535 where it has no node, a node that it has alone, 65534 where it has nodes.
 const MEMBERS: usize = 2;
 
-// The entry of qubit q in the map from qubit to node. Every read and write of such a map goes by a Qubit, so that a node
+// The entry of qubit q in the map from qubit to node. Linking reads and writes such a map by a Qubit, so that a node
 // number handed over as a qubit is a type error.
 pub(crate) fn node_at(map: &[u16; 64], q: Qubit) -> NodeIndex
     requires { ⌜ (q .0 < 64) × (length (now map) ≡ 64) ⌝ }
@@ -110,7 +110,8 @@ fn set_known(map: &mut [u16; 64], q: Qubit, old: NodeIndex, v: NodeIndex)
 // The source, where there is one, leaves the block, and v joins it.
 fn replace_in(block: &mut [bool; 512], source: NodeIndex, v: NodeIndex)
     requires { ⌜ (v .0 < 512) × (present (source .0) ≡ true → source .0 < 512) ⌝ }
-    ensures { λ r. ⌜ now (block .exit) ≡ set (cond (present (source .0)) (set (now (block .entry)) (source .0) false) (now (block .entry))) (v .0) true ⌝ }
+    ensures { λ r. ⌜ now (block .exit)
+        ≡ set (cond (present (source .0)) (set (now (block .entry)) (source .0) false) (now (block .entry))) (v .0) true ⌝ }
 {
     let w = v.0 as usize;
     if source.0 == 65535 {
@@ -175,9 +176,11 @@ fn link_set(
     v: NodeIndex,
     mask: u64,
 ) -> usize
-    requires { ⌜ (v .0 < 512) × (present (all .0) ≡ true → all .0 < 512) × (length (now «near_node») ≡ 64) × (length (now others) ≡ 64) ⌝ }
+    requires { ⌜ (v .0 < 512) × (present (all .0) ≡ true → all .0 < 512)
+        × (length (now «near_node») ≡ 64) × (length (now others) ≡ 64) ⌝ }
     requires { ⌜ ((q : ℕ) → present (getD (now «near_node») q absent) ≡ true → getD (now «near_node») q absent < 512) ⌝ }
-    ensures { λ r. ⌜ SetLinked mask (v .0) all (now («near_node» .entry)) (now («far_node» .entry)) (now («near_block» .entry)) (now («near_node» .exit)) (now («far_node» .exit)) (now («near_block» .exit)) (now (others .exit)) r ⌝ }
+    ensures { λ r. ⌜ SetLinked mask (v .0) all (now («near_node» .entry)) (now («far_node» .entry)) (now («near_block» .entry))
+        (now («near_node» .exit)) (now («far_node» .exit)) (now («near_block» .exit)) (now (others .exit)) r ⌝ }
 {
     let fresh = or_else(all, v);
     let mut k: usize = 0;
@@ -232,8 +235,10 @@ fn no_qubit(map: &[u16; 64], top: u16) -> bool
 
 // Whether both maps are empty.
 fn no_qubits(near_node: &[u16; 64], near_top: u16, far_node: &[u16; 64], far_top: u16) -> bool
-    requires { ⌜ («near_top» ≤ 64) × (length (now «near_node») ≡ 64) × ((q : ℕ) → «near_top» ≤ q → getD (now «near_node») q absent ≡ absent) ⌝ }
-    requires { ⌜ («far_top» ≤ 64) × (length (now «far_node») ≡ 64) × ((q : ℕ) → «far_top» ≤ q → getD (now «far_node») q absent ≡ absent) ⌝ }
+    requires { ⌜ («near_top» ≤ 64) × (length (now «near_node») ≡ 64)
+        × ((q : ℕ) → «near_top» ≤ q → getD (now «near_node») q absent ≡ absent) ⌝ }
+    requires { ⌜ («far_top» ≤ 64) × (length (now «far_node») ≡ 64)
+        × ((q : ℕ) → «far_top» ≤ q → getD (now «far_node») q absent ≡ absent) ⌝ }
     ensures { λ r. ⌜ r ≡ (not (anyOf present (now («near_node» .entry))) && not (anyOf present (now («far_node» .entry)))) ⌝ }
 {
     if no_qubit(near_node, near_top) {
@@ -284,8 +289,15 @@ fn join_set(
     far_block: &mut [bool; 512],
     others: &mut [u16; 64],
 ) -> usize
-    requires { ⌜ (v .0 < 512) × (length (now others) ≡ 64) × (EndFits (v .0) (now «near_node») (endState (now near)) (now «near_block»)) × (EndFits (v .0) (now «far_node») (endState (now far)) (now «far_block»)) ⌝ }
-    ensures { λ r. ⌜ JoinedBy (linkSet nearAll mask (v .0) (endOf (now («near_node» .entry)) (endState (now (near .entry))) (now («near_block» .entry))) (endOf (now («far_node» .entry)) (endState (now (far .entry))) (now («far_block» .entry)))) (v .0 + 1) (record { count = r; near = endState (now (near .exit)); far = endState (now (far .exit)) }) (now («near_node» .exit)) (now («far_node» .exit)) (now («near_block» .exit)) (now («far_block» .exit)) (now (others .exit)) ⌝ }
+    requires { ⌜ (v .0 < 512) × (length (now others) ≡ 64)
+        × LentFits (v .0) (now near) (now «near_node») (now «near_block»)
+        × LentFits (v .0) (now far) (now «far_node») (now «far_block») ⌝ }
+    ensures { λ r. ⌜ JoinedBy
+        (linkSet nearAll mask (v .0)
+        (lentEnd (now (near .entry)) (now («near_node» .entry)) (now («near_block» .entry)))
+        (lentEnd (now (far .entry)) (now («far_node» .entry)) (now («far_block» .entry))))
+        (v .0 + 1) (joined r (now (near .exit)) (now (far .exit)))
+        (now («near_node» .exit)) (now («far_node» .exit)) (now («near_block» .exit)) (now («far_block» .exit)) (now (others .exit)) ⌝ }
 {
     let all = NodeIndex(near[ALL]);
     let k = link_set(near_node, far_node, near_block, others, all, v, mask);
@@ -327,8 +339,15 @@ fn join_all(
     far_block: &mut [bool; 512],
     others: &mut [u16; 64],
 ) -> usize
-    requires { ⌜ (v .0 < 512) × (length (now others) ≡ 64) × (EndFits (v .0) (now «near_node») (endState (now near)) (now «near_block»)) × (EndFits (v .0) (now «far_node») (endState (now far)) (now «far_block»)) ⌝ }
-    ensures { λ r. ⌜ JoinedBy (linkAll (v .0) (endOf (now («near_node» .entry)) (endState (now (near .entry))) (now («near_block» .entry))) (endOf (now («far_node» .entry)) (endState (now (far .entry))) (now («far_block» .entry)))) (v .0 + 1) (record { count = r; near = endState (now (near .exit)); far = endState (now (far .exit)) }) (now («near_node» .exit)) (now («far_node» .exit)) (now («near_block» .exit)) (now («far_block» .exit)) (now (others .exit)) ⌝ }
+    requires { ⌜ (v .0 < 512) × (length (now others) ≡ 64)
+        × LentFits (v .0) (now near) (now «near_node») (now «near_block»)
+        × LentFits (v .0) (now far) (now «far_node») (now «far_block») ⌝ }
+    ensures { λ r. ⌜ JoinedBy
+        (linkAll (v .0)
+        (lentEnd (now (near .entry)) (now («near_node» .entry)) (now («near_block» .entry)))
+        (lentEnd (now (far .entry)) (now («far_node» .entry)) (now («far_block» .entry))))
+        (v .0 + 1) (joined r (now (near .exit)) (now (far .exit)))
+        (now («near_node» .exit)) (now («far_node» .exit)) (now («near_block» .exit)) (now («far_block» .exit)) (now (others .exit)) ⌝ }
 {
     let near_top = near[TOP];
     let far_top = far[TOP];
@@ -358,8 +377,15 @@ pub(crate) fn join_end(
     far_block: &mut [bool; 512],
     others: &mut [u16; 64],
 ) -> usize
-    requires { ⌜ (v .0 < 512) × (length (now others) ≡ 64) × (EndFits (v .0) (now «near_node») (endState (now near)) (now «near_block»)) × (EndFits (v .0) (now «far_node») (endState (now far)) (now «far_block»)) ⌝ }
-    ensures { λ r. ⌜ JoinedBy (linkBy qubits nearAll (v .0) (endOf (now («near_node» .entry)) (endState (now (near .entry))) (now («near_block» .entry))) (endOf (now («far_node» .entry)) (endState (now (far .entry))) (now («far_block» .entry)))) (v .0 + 1) (record { count = r; near = endState (now (near .exit)); far = endState (now (far .exit)) }) (now («near_node» .exit)) (now («far_node» .exit)) (now («near_block» .exit)) (now («far_block» .exit)) (now (others .exit)) ⌝ }
+    requires { ⌜ (v .0 < 512) × (length (now others) ≡ 64)
+        × LentFits (v .0) (now near) (now «near_node») (now «near_block»)
+        × LentFits (v .0) (now far) (now «far_node») (now «far_block») ⌝ }
+    ensures { λ r. ⌜ JoinedBy
+        (linkBy qubits nearAll (v .0)
+        (lentEnd (now (near .entry)) (now («near_node» .entry)) (now («near_block» .entry)))
+        (lentEnd (now (far .entry)) (now («far_node» .entry)) (now («far_block» .entry))))
+        (v .0 + 1) (joined r (now (near .exit)) (now (far .exit)))
+        (now («near_node» .exit)) (now («far_node» .exit)) (now («near_block» .exit)) (now («far_block» .exit)) (now (others .exit)) ⌝ }
 {
     match qubits {
         InvolvedQubits::None => 0,
@@ -400,8 +426,15 @@ pub(crate) fn join_record(
     last_block: &mut [bool; 512],
     others: &mut [u16; 64],
 ) -> usize
-    requires { ⌜ (v .0 < 512) × (length (now others) ≡ 64) × (EndFits (v .0) (now «first_node») (endState (now first)) (now «first_block»)) × (EndFits (v .0) (now «last_node») (endState (now last)) (now «last_block»)) ⌝ }
-    ensures { λ r. ⌜ JoinedEndsBy front (linkAt front qubits (v .0) (endOf (now («first_node» .entry)) (endState (now (first .entry))) (now («first_block» .entry))) (endOf (now («last_node» .entry)) (endState (now (last .entry))) (now («last_block» .entry)))) (v .0 + 1) (record { count = r; first = endState (now (first .exit)); last = endState (now (last .exit)) }) (now («first_node» .exit)) (now («last_node» .exit)) (now («first_block» .exit)) (now («last_block» .exit)) (now (others .exit)) ⌝ }
+    requires { ⌜ (v .0 < 512) × (length (now others) ≡ 64)
+        × LentFits (v .0) (now first) (now «first_node») (now «first_block»)
+        × LentFits (v .0) (now last) (now «last_node») (now «last_block») ⌝ }
+    ensures { λ r. ⌜ JoinedEndsBy front
+        (linkAt front qubits (v .0)
+        (lentEnd (now (first .entry)) (now («first_node» .entry)) (now («first_block» .entry)))
+        (lentEnd (now (last .entry)) (now («last_node» .entry)) (now («last_block» .entry))))
+        (v .0 + 1) (joinedEnds r (now (first .exit)) (now (last .exit)))
+        (now («first_node» .exit)) (now («last_node» .exit)) (now («first_block» .exit)) (now («last_block» .exit)) (now (others .exit)) ⌝ }
 {
     if front {
         return join_end(
@@ -439,7 +472,8 @@ fn put_edge(
     at: usize,
 )
     requires { ⌜ at < 2048 ⌝ }
-    ensures { λ r. ⌜ (now (from .exit) ≡ set (now (from .entry)) at (link front (v .0) (u .0) .from)) × (now (to .exit) ≡ set (now (to .entry)) at (link front (v .0) (u .0) .to)) ⌝ }
+    ensures { λ r. ⌜ (now (from .exit) ≡ set (now (from .entry)) at (link front (v .0) (u .0) .from))
+        × (now (to .exit) ≡ set (now (to .entry)) at (link front (v .0) (u .0) .to)) ⌝ }
 {
     if front {
         from[at] = v.0;
@@ -460,8 +494,10 @@ pub(crate) fn add_edges(
     to: &mut [u16; 2048],
     count: usize,
 )
-    requires { ⌜ (k ≤ 64) × (count + k ≤ 2048) × (length (now others) ≡ 64) × (length (now from) ≡ 2048) × (length (now to) ≡ 2048) ⌝ }
-    ensures { λ r. ⌜ EdgesAdded front (v .0) (now (others .entry)) k count (now (from .entry)) (now (to .entry)) (now (from .exit)) (now (to .exit)) ⌝ }
+    requires { ⌜ (k ≤ 64) × (count + k ≤ 2048) × (length (now others) ≡ 64)
+        × (length (now from) ≡ 2048) × (length (now to) ≡ 2048) ⌝ }
+    ensures { λ r. ⌜ EdgesAdded front (v .0) (now (others .entry)) k count
+        (now (from .entry)) (now (to .entry)) (now (from .exit)) (now (to .exit)) ⌝ }
 {
     let mut i: usize = 0;
     while i < k {

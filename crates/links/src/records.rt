@@ -7,7 +7,7 @@ ghost use lib.Dec.{ltb};
 ghost use lib.ListN.{length};
 ghost use Rattle.file.specs.Lists.{allOf};
 ghost use Rattle.graph.specs.Soundness.{named, ifPresent};
-ghost use Rattle.links.specs.Ends.{endState, endOf, endStateOf, EndFits, RecordLinked};
+ghost use Rattle.links.specs.Ends.{endState, endStateOf, RecordLinked, lentEnd, LentFits, linkedRecord};
 ghost use Rattle.links.specs.Links.{linkAt};
 ghost use Rattle.links.specs.Linking.{linksFrom, linksStopped, noLinks, linksFit, linksKept, linkNode, linkRecords};
 use crate::LinkedRecords;
@@ -38,8 +38,17 @@ fn link_record(
     last_block: &mut [bool; 512],
     others: &mut [u16; 64],
 ) -> usize
-    requires { ⌜ (v .0 < 512) × (edges ≤ 2048) × (length (now from) ≡ 2048) × (length (now to) ≡ 2048) × (length (now others) ≡ 64) × (EndFits (v .0) (now «first_node») (endState (now first)) (now «first_block»)) × (EndFits (v .0) (now «last_node») (endState (now last)) (now «last_block»)) ⌝ }
-    ensures { λ r. ⌜ RecordLinked front (v .0) (linkAt front qubits (v .0) (endOf (now («first_node» .entry)) (endState (now (first .entry))) (now («first_block» .entry))) (endOf (now («last_node» .entry)) (endState (now (last .entry))) (now («last_block» .entry)))) (record { count = edges; from = now (from .entry); to = now (to .entry) }) (record { edges = r; first = endState (now (first .exit)); last = endState (now (last .exit)) }) (now (from .exit)) (now (to .exit)) (now («first_node» .exit)) (now («last_node» .exit)) (now («first_block» .exit)) (now («last_block» .exit)) × (length (now (others .exit)) ≡ 64) ⌝ }
+    requires { ⌜ (v .0 < 512) × (edges ≤ 2048) × (length (now from) ≡ 2048) × (length (now to) ≡ 2048) × (length (now others) ≡ 64)
+        × LentFits (v .0) (now first) (now «first_node») (now «first_block»)
+        × LentFits (v .0) (now last) (now «last_node») (now «last_block») ⌝ }
+    ensures { λ r. ⌜ RecordLinked front (v .0)
+        (linkAt front qubits (v .0)
+        (lentEnd (now (first .entry)) (now («first_node» .entry)) (now («first_block» .entry)))
+        (lentEnd (now (last .entry)) (now («last_node» .entry)) (now («last_block» .entry))))
+        (record { count = edges; from = now (from .entry); to = now (to .entry) }) (linkedRecord r (now (first .exit)) (now (last .exit)))
+        (now (from .exit)) (now (to .exit)) (now («first_node» .exit)) (now («last_node» .exit))
+        (now («first_block» .exit)) (now («last_block» .exit))
+        × (length (now (others .exit)) ≡ 64) ⌝ }
 {
     let k = join_record(
         front,
@@ -100,7 +109,8 @@ fn links_held(
     first_block: [bool; 512],
     last_block: [bool; 512],
 ) -> LinkedRecords
-    ensures { λ r. ⌜ r ≡ linksFrom k (record { count = count; from = from; to = to }) (endOf «first_node» (endState first) «first_block») (endOf «last_node» (endState last) «last_block») ⌝ }
+    ensures { λ r. ⌜ r ≡ linksFrom k (record { count = count; from = from; to = to })
+        (lentEnd first «first_node» «first_block») (lentEnd last «last_node» «last_block») ⌝ }
 {
     LinkedRecords {
         accepted: k,

@@ -95,7 +95,8 @@ fn descend(
     i: usize,
 )
     requires { ⌜ Joined (now from) (now to) m × (i + block < length (now buffer)) ⌝ }
-    ensures { λ r. ⌜ Descended (now (number .entry)) (now (from .entry)) (now (to .entry)) m (v .0) block i (now (buffer .entry)) (now (buffer .exit)) ⌝ }
+    ensures { λ r. ⌜ Descended (now (number .entry)) (now (from .entry)) (now (to .entry)) m (v .0) block i
+        (now (buffer .entry)) (now (buffer .exit)) ⌝ }
 {
     buffer[i] = v.0;
     if block == 0 {

@@ -257,7 +257,8 @@ fn write_kept(mark: &[bool; 512], skip: &[bool; 512], n: usize, buffer: &mut [u1
 // The answer of a query whose entries are those nodes.
 fn answer_kept(mark: &[bool; 512], skip: &[bool; 512], n: usize, buffer: &mut [u16]) -> Query
     requires { ⌜ n ≤ 512 ⌝ }
-    ensures { λ r. ⌜ record { answer = r; buffer = now (buffer .exit) } ≡ answers (kept (now (mark .entry)) (now (skip .entry)) n) (now (buffer .entry)) ⌝ }
+    ensures { λ r. ⌜ record { answer = r; buffer = now (buffer .exit) }
+        ≡ answers (kept (now (mark .entry)) (now (skip .entry)) n) (now (buffer .entry)) ⌝ }
 {
     let k = count_kept(mark, skip, n);
     if buffer.len() < k {
@@ -341,7 +342,8 @@ fn answer_next(
     buffer: &mut [u16],
 ) -> Query
     requires { ⌜ (n ≤ 512) × (k ≡ length (kept (now mark) (now skip) n)) × (i < length (now layer)) ⌝ }
-    ensures { λ r. ⌜ record { answer = r; buffer = now (buffer .exit) } ≡ answers (without i (now (layer .entry)) ++ kept (now (mark .entry)) (now (skip .entry)) n) (now (buffer .entry)) ⌝ }
+    ensures { λ r. ⌜ record { answer = r; buffer = now (buffer .exit) }
+        ≡ answers (without i (now (layer .entry)) ++ kept (now (mark .entry)) (now (skip .entry)) n) (now (buffer .entry)) ⌝ }
 {
     let len = layer.len();
     let rest = len - 1;
@@ -367,7 +369,8 @@ fn answer_layer(
     buffer: &mut [u16],
 ) -> Query
     requires { ⌜ (n ≤ 512) × (i < length (now layer)) ⌝ }
-    ensures { λ r. ⌜ record { answer = r; buffer = now (buffer .exit) } ≡ answers (layerBy (kept (now (mark .entry)) (now (skip .entry)) n) (now (layer .entry)) i) (now (buffer .entry)) ⌝ }
+    ensures { λ r. ⌜ record { answer = r; buffer = now (buffer .exit) }
+        ≡ answers (layerBy (kept (now (mark .entry)) (now (skip .entry)) n) (now (layer .entry)) i) (now (buffer .entry)) ⌝ }
 {
     let k = count_kept(mark, skip, n);
     if k == 0 {
@@ -378,7 +381,8 @@ fn answer_layer(
 
 // All nodes other than v from which v is reached, minus those in the executed list, ascending.
 pub fn execution_blocked(g: CircuitDag, executed: &[u16], v: NodeIndex, buffer: &mut [u16]) -> Query
-    ensures { λ r. ⌜ record { answer = r; buffer = now (buffer .exit) } ≡ executionBlocked g (now (executed .entry)) (v .0) (now (buffer .entry)) ⌝ }
+    ensures { λ r. ⌜ record { answer = r; buffer = now (buffer .exit) }
+        ≡ executionBlocked g (now (executed .entry)) (v .0) (now (buffer .entry)) ⌝ }
 {
     if !is_sound(g) {
         return Query::Refused(Refusal::Unsound);
@@ -402,7 +406,8 @@ pub fn blocking_predecessors(
     v: NodeIndex,
     buffer: &mut [u16],
 ) -> Query
-    ensures { λ r. ⌜ record { answer = r; buffer = now (buffer .exit) } ≡ blockingPredecessors g (now (executed .entry)) (v .0) (now (buffer .entry)) ⌝ }
+    ensures { λ r. ⌜ record { answer = r; buffer = now (buffer .exit) }
+        ≡ blockingPredecessors g (now (executed .entry)) (v .0) (now (buffer .entry)) ⌝ }
 {
     if !is_sound(g) {
         return Query::Refused(Refusal::Unsound);
@@ -447,7 +452,8 @@ pub fn new_front_layer(
     v: NodeIndex,
     buffer: &mut [u16],
 ) -> Query
-    ensures { λ r. ⌜ record { answer = r; buffer = now (buffer .exit) } ≡ newFrontLayer g (now (executed .entry)) (now (layer .entry)) (v .0) (now (buffer .entry)) ⌝ }
+    ensures { λ r. ⌜ record { answer = r; buffer = now (buffer .exit) }
+        ≡ newFrontLayer g (now (executed .entry)) (now (layer .entry)) (v .0) (now (buffer .entry)) ⌝ }
 {
     if !is_sound(g) {
         return Query::Refused(Refusal::Unsound);

@@ -69,7 +69,7 @@ each-map (AllQubits n) s v near far h = refl
 each-map (Set c) s v near far h = elim h [ inl e ↦ absurd (omega arith) | inr g ↦ elim g [ inl e ↦ absurd (omega arith) | inr i ↦ elim i [ inl e ↦ absurd (omega arith) | inr e ↦ absurd (omega arith) ] ] ]
 each-map (Definition n m) s v near far h = define-each (definition n v m 0) (mapsOf near far)
 
-join-each : (k : InvolvedClassical) (s : List ℕ) (v : ℕ) (near far near′ far′ : Registers) → OneOf (0 ∷ 1 ∷ 2 ∷ 4 ∷ []) (tagOf the-type k)
+pub join-each : (k : InvolvedClassical) (s : List ℕ) (v : ℕ) (near far near′ far′ : Registers) → OneOf (0 ∷ 1 ∷ 2 ∷ 4 ∷ []) (tagOf the-type k)
     → Becomes near near′ (mapBy k true v (entriesOf near)) → Becomes far far′ (mapBy k false v (entriesOf far)) → BothBecome k s v near far near′ far′
 join-each k s v near far near′ far′ h a b =
     let e = each-map k s v near far h in
@@ -85,20 +85,24 @@ join-each k s v near far near′ far′ h a b =
       far-map = d;
     }
 
+-- .. with a Set both maps are made at once
+pub joins-set : (k : InvolvedClassical) (s : List ℕ) (v : ℕ) (near far near′ far′ : Registers) (c : ℕ) → k ≡ Set c → BothBecome (Set c) s v near far near′ far′ → BothBecome k s v near far near′ far′
+joins-set k s v near far near′ far′ c e b = rw e b
+
 -- near and far by the end of the insertion: a record without a Set
-pub ends-each : (front : Bool) (k : InvolvedClassical) (s : List ℕ) (v : ℕ) (first last first′ last′ : Registers) → OneOf (0 ∷ 1 ∷ 2 ∷ 4 ∷ []) (tagOf the-type k)
+ends-each : (front : Bool) (k : InvolvedClassical) (s : List ℕ) (v : ℕ) (first last first′ last′ : Registers) → OneOf (0 ∷ 1 ∷ 2 ∷ 4 ∷ []) (tagOf the-type k)
     → Becomes first first′ (mapBy k front v (entriesOf first)) → Becomes last last′ (mapBy k (not front) v (entriesOf last)) → EndsBecome front k s v first last first′ last′
 ends-each true k s v first last first′ last′ h a b = record { both = join-each k s v first last first′ last′ h a b }
 ends-each false k s v first last first′ last′ h a b = record { both = join-each k s v last first last′ first′ h b a }
 
--- .. one with a Set
-pub set-front : (front : Bool) (k : InvolvedClassical) (s : List ℕ) (v : ℕ) (first last first′ last′ : Registers) (c : ℕ) → k ≡ Set c → front ≡ true
-    → BothBecome (Set c) s v first last first′ last′ → EndsBecome front k s v first last first′ last′
-set-front front k s v first last first′ last′ c e t b = record { both = rw (e, t) b }
+-- .. any record, by what becomes of near and far
+pub ends-front : (front : Bool) (k : InvolvedClassical) (s : List ℕ) (v : ℕ) (first last first′ last′ : Registers) → front ≡ true
+    → BothBecome k s v first last first′ last′ → EndsBecome front k s v first last first′ last′
+ends-front front k s v first last first′ last′ t b = record { both = rw t b }
 
-pub set-back : (front : Bool) (k : InvolvedClassical) (s : List ℕ) (v : ℕ) (first last first′ last′ : Registers) (c : ℕ) → k ≡ Set c → front ≡ false
-    → BothBecome (Set c) s v last first last′ first′ → EndsBecome front k s v first last first′ last′
-set-back front k s v first last first′ last′ c e t b = record { both = rw (e, t) b }
+pub ends-back : (front : Bool) (k : InvolvedClassical) (s : List ℕ) (v : ℕ) (first last first′ last′ : Registers) → front ≡ false
+    → BothBecome k s v last first last′ first′ → EndsBecome front k s v first last first′ last′
+ends-back front k s v first last first′ last′ t b = record { both = rw t b }
 
 -- .. and one without registers, which leaves both maps
 pub ends-nothing : (front : Bool) (k : InvolvedClassical) (s : List ℕ) (v : ℕ) (first last : Registers) → k ≡ None → Fits first → Fits last

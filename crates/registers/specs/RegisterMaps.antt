@@ -1,4 +1,4 @@
--- What the code that changes register maps answers, on maps lent as arrays. Assumes nothing.
+-- What private functions promise: register maps lent as arrays, and what is left in them by the rules of Registers. Assumes nothing.
 use mathlib.Core.Path.{_≡_}
 use mathlib.Core.Bool.{Bool, true, false, cond, _||_}
 use mathlib.Core.List.{List, [], _∷_, map}

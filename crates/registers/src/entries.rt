@@ -1,4 +1,4 @@
-// The register maps of a load, lent as plain arrays: entry i has the key (name[i], index[i]) and the node node[i]. The rules are
+// The register maps of a circuit, lent as plain arrays: entry i has the key (name[i], index[i]) and the node node[i]. The rules are
 // in specs/Registers.antt, what the functions answer in specs/RegisterMaps.antt.
 // `hints` says where a key may stand. It is a guess: it is compared with the key before use, and nothing is promised of it.
 ghost use mathlib.Core.Path.{_≡_};
@@ -12,7 +12,7 @@ use file::InvolvedClassical;
 use file::RegisterKey;
 use graph::NodeIndex;
 
-// The cell of a key's guess: 8 names of 256 indices have a cell each.
+// The cell of a key's guess: names that differ modulo 8, with indices below 256, have cells of their own.
 fn hint_cell(key: RegisterKey) -> usize
     ensures { λ r. ⌜ r < 2048 ⌝ }
 {
@@ -315,6 +315,70 @@ fn join_map(
     }
 }
 
+// What a record that became node v does to the register maps, near being the one at the end of the insertion.
+fn enter_maps(
+    part: &[u8],
+    classical: InvolvedClassical,
+    v: NodeIndex,
+    near_name: &mut [u8; 256],
+    near_index: &mut [u16; 256],
+    near_node: &mut [u16; 256],
+    near_hints: &mut [u16; 2048],
+    near_count: usize,
+    far_name: &mut [u8; 256],
+    far_index: &mut [u16; 256],
+    far_node: &mut [u16; 256],
+    far_hints: &mut [u16; 2048],
+    far_count: usize,
+) -> RegisterCounts
+    requires { ⌜ Fits (registers «near_count» (now «near_name») (now «near_index») (now «near_node»))
+        × Fits (registers «far_count» (now «far_name») (now «far_index») (now «far_node»)) ⌝ }
+    ensures { λ r. ⌜ BothBecome classical (now (part .entry)) (v .0)
+        (registers «near_count» (now («near_name» .entry)) (now («near_index» .entry)) (now («near_node» .entry)))
+        (registers «far_count» (now («far_name» .entry)) (now («far_index» .entry)) (now («far_node» .entry)))
+        (registers (r .near) (now («near_name» .exit)) (now («near_index» .exit)) (now («near_node» .exit)))
+        (registers (r .far) (now («far_name» .exit)) (now («far_index» .exit)) (now («far_node» .exit))) ⌝ }
+{
+    if let InvolvedClassical::Set(c) = classical {
+        return set_keys(
+            part,
+            c,
+            v,
+            near_name,
+            near_index,
+            near_node,
+            near_hints,
+            near_count,
+            far_name,
+            far_index,
+            far_node,
+            far_hints,
+            far_count,
+        );
+    }
+    let near = join_map(
+        classical,
+        true,
+        v,
+        near_name,
+        near_index,
+        near_node,
+        near_hints,
+        near_count,
+    );
+    let far = join_map(
+        classical,
+        false,
+        v,
+        far_name,
+        far_index,
+        far_node,
+        far_hints,
+        far_count,
+    );
+    RegisterCounts { near, far }
+}
+
 // The new counts of the maps first and last; over 256 where one has no room.
 pub(crate) struct EndCounts {
     pub first: usize,
@@ -346,68 +410,44 @@ pub(crate) fn enter_record(
         (registers (r .first) (now («first_name» .exit)) (now («first_index» .exit)) (now («first_node» .exit)))
         (registers (r .last) (now («last_name» .exit)) (now («last_index» .exit)) (now («last_node» .exit))) ⌝ }
 {
-    if let InvolvedClassical::Set(c) = classical {
-        if front {
-            let n = set_keys(
-                part,
-                c,
-                v,
-                first_name,
-                first_index,
-                first_node,
-                first_hints,
-                first_count,
-                last_name,
-                last_index,
-                last_node,
-                last_hints,
-                last_count,
-            );
-            return EndCounts {
-                first: n.near,
-                last: n.far,
-            };
-        }
-        let n = set_keys(
+    if front {
+        let n = enter_maps(
             part,
-            c,
+            classical,
             v,
-            last_name,
-            last_index,
-            last_node,
-            last_hints,
-            last_count,
             first_name,
             first_index,
             first_node,
             first_hints,
             first_count,
+            last_name,
+            last_index,
+            last_node,
+            last_hints,
+            last_count,
         );
         return EndCounts {
-            first: n.far,
-            last: n.near,
+            first: n.near,
+            last: n.far,
         };
     }
+    let n = enter_maps(
+        part,
+        classical,
+        v,
+        last_name,
+        last_index,
+        last_node,
+        last_hints,
+        last_count,
+        first_name,
+        first_index,
+        first_node,
+        first_hints,
+        first_count,
+    );
     EndCounts {
-        first: join_map(
-            classical,
-            front,
-            v,
-            first_name,
-            first_index,
-            first_node,
-            first_hints,
-            first_count,
-        ),
-        last: join_map(
-            classical,
-            !front,
-            v,
-            last_name,
-            last_index,
-            last_node,
-            last_hints,
-            last_count,
-        ),
+        first: n.far,
+        last: n.near,
     }
 }

@@ -57,7 +57,9 @@ fn maps_held(
     last_index: [u16; 256],
     last_node: [u16; 256],
 ) -> Registered
-    ensures { λ r. ⌜ r ≡ registersOf k (registers (counts .first) «first_name» «first_index» «first_node») (registers (counts .last) «last_name» «last_index» «last_node») ⌝ }
+    ensures { λ r. ⌜ r ≡ registersOf k
+        (registers (counts .first) «first_name» «first_index» «first_node»)
+        (registers (counts .last) «last_name» «last_index» «last_node») ⌝ }
 {
     Registered {
         accepted: k,

@@ -246,7 +246,7 @@ module _ (l : List (List ℕ)) (buffer : List ℕ) (C : Condition l) (room : siz
     fewest = λ rival h. let z = filled-is in let y = rival-is rival in omega (arith, K .fewest rival (keeps-of rival h));
   }
 
--- "Every list of insertions on the empty graph that meets its condition has a walk with the whole guarantee."
+-- every list of insertions on the empty graph within the condition has a walk with the whole guarantee
 pub demand-3 : Demand3
 demand-3 = record {
   short = λ l buffer C h. walk-short (final l) (sound-built l .sound) buffer h;

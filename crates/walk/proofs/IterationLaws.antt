@@ -174,6 +174,6 @@ module _ (g : CircuitDag) (s : sound g ≡ true) where
     forever = λ e. call-forever lent room (empty-list (members (g .first .block)) e);
   }
 
--- "on every sound graph": the walk ends, each node is in at most one block, and `next` iterated gives the whole walk's numbers
+-- on every sound graph the walk ends, each node is in at most one block, and `next` iterated gives the whole walk's numbers
 pub next-iterated : NextIterated
 next-iterated = record { whole = iterated }

@@ -1,4 +1,5 @@
 -- Demand 3, the statement: "a single claim about the whole list, not one for each call". Everything it says is in this file and in the rules it names.
+-- Assumes nothing.
 use mathlib.Core.Path.{_≡_}
 use mathlib.Core.Bool.{Bool, true, false, cond, not, _&&_, _||_}
 use mathlib.Core.List.{List, [], _∷_, _++_, map}
@@ -86,7 +87,7 @@ unfoldable pub different : List ℕ → List ℕ → ℕ
 different [] seen = length seen
 different (x ∷ l) seen = different l (add x seen)
 
--- the state after t steps from two empty sets, and the block of step t, counted from 0
+-- the state after t steps from two empty sets
 unfoldable pub stateAfter : CircuitDag → ℕ → ParallelBlocks
 stateAfter g zero = start
 stateAfter g (suc t) = nextState g (stateAfter g t)
