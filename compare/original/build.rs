@@ -4,12 +4,12 @@ use std::{env, fs, path::Path};
 
 fn main() {
     let root = env::var("CARGO_MANIFEST_DIR").expect("cargo sets it");
-    let folder = env::var("SAWHEKONU_ORIGINAL").unwrap_or_else(|_| format!("{root}/../../../shared/docs/src"));
+    let folder = env::var("SAWHEKONU_ORIGINAL").expect("set SAWHEKONU_ORIGINAL to the folder with the files of the original");
     let out = env::var("OUT_DIR").expect("cargo sets it");
     let after = format!("{root}/src/after.rs");
     for (name, appended) in [("circuitdag", Some(&after)), ("circuit", None)] {
         let path = format!("{folder}/roqoqo--src--{name}.rs.txt");
-        let mut text = fs::read(&path).unwrap_or_else(|e| panic!("{path}: {e}; set SAWHEKONU_ORIGINAL to the folder with the original"));
+        let mut text = fs::read(&path).unwrap_or_else(|e| panic!("{path}: {e}"));
         if let Some(file) = appended {
             text.extend(fs::read(file).expect("our item"));
         }

@@ -1,23 +1,30 @@
 -- Demand 3, proved: the statement is in specs/Guarantee.antt. Assumes nothing.
 use mathlib.Core.Path.{_≡_, refl, sym, _∙_, ap, subst}
-use mathlib.Core.Bool.{Bool, true, false, cond, _&&_}
+use mathlib.Core.Bool.{Bool, true, false, cond, _&&_, not}
 use mathlib.Core.Logic.{⊎-elim}
 use mathlib.Core.List.{List, [], _∷_, map}
 use Prim.Native.Nat.{ℕ, zero, suc, _≤_, _<_}
 use native.Mathlib.Omega.{arith}
-use lib.Dec.{eqb, ltb}
+use lib.Dec.{eqb, ltb, leb}
 use lib.Signed.{ltZ}
 use lib.ListN.{length, getD, drop, List·getD-append}
 use borrow.Author.Tests.{eqb-true, eq-eqb, lt-ltb, ltb-true, le-ltb}
-use Rattle.file.specs.Lists.{anyOf, keep, member, onto}
-use Rattle.file.specs.declared.Refusal.the-variants.{ShortBuffer}
+use Rattle.file.specs.Lists.{anyOf, keep, member, onto, allOf}
+use Rattle.file.specs.declared.Refusal.the-variants.{ShortBuffer, BadRecord, TooManyNodes, TooManyEdges, TooManyRegisters}
 use Rattle.graph.specs.declared.CircuitDag.{CircuitDag}
-use Rattle.graph.specs.Dag.{absent, size, hasEdge}
+use Rattle.graph.specs.Dag.{absent, size, hasEdge, node}
 use Rattle.graph.specs.Soundness.{sound}
 use Rattle.file.proofs.BoolLaws.{bool-cases, clash-bool, not-true, bool-ext, and-l, and-r, eqb-flip}
-use Rattle.graph.proofs.ListLaws.{any-here, any-later, keep-any, member-keep, length-upTo, upTo-at}
+use Rattle.graph.proofs.ListLaws.{any-here, any-later, keep-any, member-keep, length-upTo, upTo-at, all-append}
 use Rattle.insertion.specs.Calls.{final}
 use Rattle.insertion.proofs.BuiltLaws.{sound-built}
+use Rattle.file.specs.Records.{recordRule}
+use Rattle.graph.specs.declared.NodeIndex.{NodeIndex}
+use Rattle.links.specs.Links.{nearAll}
+use Rattle.insertion.specs.declared.Answer.the-variants.{Node}
+use Rattle.insertion.specs.declared.Inserted.{Inserted}
+use Rattle.insertion.specs.Insertion.{grown}
+use Rattle.insertion.specs.Limits.{refused, edgesPass, registersPass, insertAs}
 use Rattle.walk.specs.declared.BlockCount.the-variants.{Blocks, Refused as NotWalked}
 use Rattle.walk.specs.Blocks.{Walked, blocks, numberFrom, blockNumbers, wholeWalk}
 use Rattle.walk.specs.Guarantee.{Accepted, accepted, takesQubits, operations, Condition, Each, Orders, different, stateAfter, blockOfStep, entry, filled, Guarantee, Demand3}
@@ -81,6 +88,18 @@ module _ (g : CircuitDag) (s : sound g ≡ true) (buffer : List ℕ) where
   walk-entry h v l = ap (λ (x : Walked). getD (x .buffer) v absent) (walk-done h)
       ∙ List·getD-append (blockNumbers g) (drop (length (blockNumbers g)) buffer) absent v (omega (arith, length-upTo (numberFrom 0 (blocks g)) (size g)))
       ∙ upTo-at (numberFrom 0 (blocks g)) (size g) v absent l
+
+-- the number that an accepted record answers
+number-of : (g : CircuitDag) (s : List ℕ) (v : NodeIndex) → insertAs nearAll 0 g s .answer ≡ Node v → size g ≡ v .0
+unfolding insertAs
+number-of g s v = by (not (recordRule s)) (leb 512 (size g)) (edgesPass nearAll g s) (registersPass g s)
+  where
+    by : (a b c d : Bool) → cond a (refused (BadRecord 0) g) (cond b (refused TooManyNodes g) (cond c (refused (TooManyEdges 0) g) (cond d (refused (TooManyRegisters 0) g) (record { answer = Node (node (size g)); graph = grown nearAll g s })))) .answer ≡ Node v → size g ≡ v .0
+    by true b c d e = let z : _≡_ {A = ℕ} 0 1 = cc in absurd (omega arith)
+    by false true c d e = let z : _≡_ {A = ℕ} 0 1 = cc in absurd (omega arith)
+    by false false true d e = let z : _≡_ {A = ℕ} 0 1 = cc in absurd (omega arith)
+    by false false false true e = let z : _≡_ {A = ℕ} 0 1 = cc in absurd (omega arith)
+    by false false false false e = cc
 
 module _ (l : List (List ℕ)) (buffer : List ℕ) (C : Condition l) (room : size (final l) ≤ length buffer) where
   abbrev g : CircuitDag
@@ -237,6 +256,8 @@ module _ (l : List (List ℕ)) (buffer : List ℕ) (C : Condition l) (room : siz
   guaranteed : Guarantee l buffer
   guaranteed = record {
     calls = λ before rest s e. sound-built before .never s;
+    numbers = λ before rest s v e a. sym (number-of (final before) s v (sym (ap (λ (x : Inserted). x .answer) (sound-built before .never s)) ∙ a))
+        ∙ sym (built before (and-l _ _ (sym (all-append (allOf (λ b. ltb b 256)) before (s ∷ rest)) ∙ (rw e at (C .bytes)))) .long);
     nodes = sym (T .long);
     count = ap (λ (x : Walked). x .answer) (walk-done g sound-g buffer room) ∙ ap Blocks (steps-is ∙ sym filled-is);
     once = once-of;

@@ -11,6 +11,7 @@ use lib.ListN.{length, getD}
 use Rattle.file.specs.Lists.{anyOf, allOf, keep, member, add}
 use Rattle.file.specs.Records.{front, qubitForm, mask}
 use Rattle.file.specs.declared.Refusal.the-variants.{ShortBuffer}
+use Rattle.graph.specs.declared.NodeIndex.{NodeIndex}
 use Rattle.graph.specs.declared.CircuitDag.{CircuitDag}
 use Rattle.insertion.specs.declared.Answer.the-variants.{Node, Refused}
 use Rattle.graph.specs.Dag.{absent, empty, size}
@@ -109,6 +110,9 @@ pub record Guarantee (l : List (List ℕ)) (buffer : List ℕ) : Type 0 where
   -- "Each call is accepted or refused exactly as document 01 says". At every place of the list the insertion goes by the rules from
   -- cause 4 on, on the graph that the calls before it left; cause 11, an unsound graph, never comes.
   pub calls : (before rest : List (List ℕ)) (s : List ℕ) → l ≡ before ++ (s ∷ rest) → insertOf (final before) s ≡ insertAs nearAll 0 (final before) s
+  -- "Node numbers run from 0 in order of insertion." A call that accepts its record answers the number by which `accepted`, and so the
+  -- walk's entries below, go: how many records were accepted before it.
+  pub numbers : (before rest : List (List ℕ)) (s : List ℕ) (v : NodeIndex) → l ≡ before ++ (s ∷ rest) → insertOf (final before) s .answer ≡ Node v → v .0 ≡ length (accepted before)
   -- The graph has a node for each accepted record and no other, so the entries of the walk are about just these.
   pub nodes : size (final l) ≡ length (accepted l)
   -- "The walk counts exactly the blocks it filled". The whole walk is not refused, and the count that it returns is how many different
