@@ -1,7 +1,8 @@
 -- The bench table, proved by computing the rules; the statement is in specs/BenchTable.antt. Assumes nothing.
 use mathlib.Core.Path.{_≡_, refl}
+use mathlib.Core.Bool.{true, false}
 use mathlib.Core.List.{[], _∷_}
-use Prim.Native.Nat.{ℕ}
+use Prim.Native.Nat.{ℕ, _≤_}
 use native.Mathlib.Omega.{arith}
 use Rattle.file.specs.Lists.{anyOf, allOf, keep, distinct, countFrom, markedFrom}
 use Rattle.file.specs.Pairs.{numberAt}
@@ -26,6 +27,10 @@ unfoldable pub rules : ℕ
 unfolding numberAt anyOf allOf keep distinct countFrom markedFrom definitionRule qubitRule entryBefore ascendFrom setRule tailRule recordRule qubitsBy classicalOf noEnd noRegisters empty ascends sound put define setKeys registersAfter qubitsFrom linkQubits linkSet mapped linkAll grown insertAs insertOf graphAfter reachedBy blocking remove layerAfter newFrontLayer placeIn sortByPlace circuitOf marks start joined followers blocksFrom blocks numberFrom wholeWalk acceptedFrom chainFrom chainOf
 rules = 0
 
+-- a list without a front operation has no condition on all-qubit operations
+no-front : {n : ℕ} → false ≡ true → n ≤ 1
+no-front h = let z : _≡_ {A = ℕ} 0 1 = cc in omega arith
+
 -- "The ten cases above are one theorem about the rules."
 pub bench-table : BenchTable
 unfolding rules
@@ -40,6 +45,7 @@ bench-table = record {
   case-8 = refl;
   case-9 = refl;
   case-10 = (refl, refl, refl);
+  condition-met = (record { bytes = refl; nonempty = refl; one-all = λ a b. omega arith }, record { bytes = refl; nonempty = refl; one-all = λ a b. no-front a });
 }
 
 -- "first[q] becomes lastAll": B All, B All, B{3} gives first[3] = 1, where firstAll would give 0. No case of the table tells the two apart.

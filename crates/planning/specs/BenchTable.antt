@@ -76,6 +76,14 @@ case7 = final (F (0 ∷ []) ∷ F (0 ∷ []) ∷ [])
 abbrev pub case10 : List (List ℕ) → CircuitDag
 case10 l = final (Bit 1 2 ∷ Bit 2 1 ∷ NameAll 2 ∷ l)
 
+-- "B All, F{0}, F{1}, B{0,1}": both ends, one all-qubit operation
+abbrev pub bothEnds : List (List ℕ)
+bothEnds = BAll ∷ F (0 ∷ []) ∷ F (1 ∷ []) ∷ B (0 ∷ 1 ∷ []) ∷ []
+
+-- "B All, B All, B{3}": one end, two all-qubit operations
+abbrev pub oneEnd : List (List ℕ)
+oneEnd = BAll ∷ BAll ∷ B (3 ∷ []) ∷ []
+
 -- the table, a field a line
 pub record BenchTable : Type 0 where
   -- "1. Empty: walk counts 0."
@@ -100,3 +108,6 @@ pub record BenchTable : Type 0 where
   pub case-10 : (entriesOf (case10 [] .«last_registers») ≡ entry 2 0 2 ∷ [])
       × (entriesOf (case10 [] .«first_registers») ≡ entry 1 0 0 ∷ entry 1 1 0 ∷ entry 2 0 1 ∷ [])
       × (entriesOf (case10 (NameSet 1 0 ∷ []) .«first_registers») ≡ entry 1 0 3 ∷ entry 1 1 0 ∷ entry 2 0 1 ∷ [])
+  -- "in which no accepted operation has an empty qubit set and, where qubit operations are accepted at both ends, at most one of them takes all
+  -- qubits": demand 3's condition can be met, so that the guarantee is about lists that there are
+  pub condition-met : Condition bothEnds × Condition oneEnd
