@@ -1,12 +1,4 @@
-// A circuit file on standard input, of which the first 65,536 bytes count; its blocks, or its refusal, on standard output.
-use libc::STDIN_FILENO;
-use libc::STDOUT_FILENO;
-
+// The blocks of a circuit file.
 fn main() {
-    let mut file = io::large_buffer();
-    let n = io::read_full(STDIN_FILENO, &mut file);
-    let text = report::blocks_text(&file[..n]);
-    let bytes = text.bytes;
-    let length = text.length;
-    io::write_all(STDOUT_FILENO, &bytes[..length]);
+    standard_io::print_blocks();
 }
