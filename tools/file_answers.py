@@ -127,6 +127,10 @@ def main():
         ("65535 in the header alone", b"\xff\xff"),
     ]:
         print(f"{title}: {text(parse_all(s))}")
+    print("register lists")
+    for c, n in [(0, 0), (14, 14), (15, 15), (16, 16), (17, 17), (16, 15), (16, 17)]:
+        tail = bytes([c]) + entries(*[(1, k) for k in range(n)])[1:]
+        print(f"{c} and {n}: {text(parse_all(circuit_file([record(register=3, tail=tail)])))}")
 
 
 if __name__ == "__main__":

@@ -310,6 +310,25 @@ fn zero_records(n: usize) -> [u8; 9237]
     file
 }
 
+// A file of one record in a larger array: count byte c, then the entries (1, 0), (1, 1), .. up to n of them, and a length that fits these.
+fn entry_list(c: u8, n: usize) -> [u8; 72]
+    requires { ⌜ n ≤ 17 ⌝ }
+{
+    let mut file = [0u8; 72];
+    file[0] = 1;
+    file[2] = 6;
+    file[4] = (15 + 3 * n) as u8;
+    file[17] = 3;
+    file[20] = c;
+    let mut k: usize = 0;
+    while k < n {
+        file[21 + 3 * k] = 1;
+        file[22 + 3 * k] = k as u8;
+        k += 1;
+    }
+    file
+}
+
 // One line: what it is, then the answer to the first n bytes.
 fn print_limit(title: &[u8], bytes: &[u8], n: usize) {
     let start: usize = 0;
@@ -361,6 +380,25 @@ fn print_limits() {
     print_limit(b"65535 in the header alone", &most, 2);
 }
 
+// Register lists about their limit: the count byte and the entries.
+fn print_lists() {
+    io::write_all(STDOUT_FILENO, b"register lists\n");
+    let none = entry_list(0, 0);
+    print_limit(b"0 and 0", &none, 21);
+    let short = entry_list(14, 14);
+    print_limit(b"14 and 14", &short, 63);
+    let less = entry_list(15, 15);
+    print_limit(b"15 and 15", &less, 66);
+    let most = entry_list(16, 16);
+    print_limit(b"16 and 16", &most, 69);
+    let over = entry_list(17, 17);
+    print_limit(b"17 and 17", &over, 72);
+    let few = entry_list(16, 15);
+    print_limit(b"16 and 15", &few, 66);
+    let many = entry_list(16, 17);
+    print_limit(b"16 and 17", &many, 72);
+}
+
 fn main() {
     io::write_all(STDOUT_FILENO, b"prefixes, parsed\n");
     print_counts(count_prefixes(true, 0));
@@ -373,4 +411,5 @@ fn main() {
     io::write_all(STDOUT_FILENO, b"changes of one byte, record 6 read\n");
     print_counts(count_changes(false));
     print_limits();
+    print_lists();
 }
