@@ -2,16 +2,17 @@
 """Circuit files and their bench notation.
 
   circuit.py write 'B{0} B{1} B{0,1}' > case2.circuit   a circuit file from bench notation (or from a file's text, on standard input, with '-')
-  circuit.py show < case2.circuit                        each record of a circuit file, readably
+  circuit.py show < case2.circuit                        each record of a circuit file, readably; also: circuit.py show case2.circuit
 
 A record of the notation is an end, B (back) or F (front), what it takes, and, where it has one, its register form:
   B{0,1}  F{5}  B{}          a set of qubits, 0 to 63
   B All   F All              all qubits
   B None                     no qubit
-  B{0}/Set (1,0) (1,2)       register entries (name, index), ascending; also B None/Set .., B All/Set ..
+  B{0}/Set (1,0) (1,2)       register entries (name, index), at most 16, ascending; also B None/Set .., B All/Set ..
   B None/All name 2          every entry of the name; B None/AllQubits name 2
   Bit name 1 length 2        a definition, of Bit, Float, Usize or Complex; F Bit .. at the front
-Behind a record may stand `label 7` and `kind 5`. A semicolon between records may be left out."""
+Behind a record may stand `label 7` and, where it is no definition, `kind 5`, in either order. A semicolon between records may be left out;
+from a # to the end of its line is a comment. At most 512 records."""
 import re
 import struct
 import sys
@@ -19,21 +20,48 @@ import sys
 KINDS = ["", "Bit", "Float", "Usize", "Complex"]
 RECORD = re.compile(r"""\s*(?:
     (?:(?P<dend>[BF])\s+)?(?P<kind>Bit|Float|Usize|Complex)\s+name\s+(?P<dname>\d+)\s+length\s+(?P<length>\d+)
-  | (?P<end>[BF])\s*(?P<qubits>All|None|\{[\d,\s]*\})
+  | (?P<end>[BF])\s*(?P<qubits>All|None|\{\s*(?:\d+\s*(?:,\s*\d+\s*)*)?\})
     (?:/(?:(?P<form>AllQubits|All)\s+name\s+(?P<name>\d+)|Set(?P<keys>(?:\s*\(\s*\d+\s*,\s*\d+\s*\))*)))?
-  )(?:\s+label\s+(?P<label>\d+))?(?:\s+kind\s+(?P<five>5))?\s*;?""", re.X)
+  )(?P<more>(?:\s+(?:label\s+\d+|kind\s+\d+))*)\s*;?""", re.X)
+
+
+class CircuitError(Exception):
+    """What is wrong with a text or a file, in words for who wrote it."""
 
 
 def number(text, most, what):
     n = int(text or 0)
     if n > most:
-        sys.exit(f"circuit.py: {what} {n} is over {most}")
+        raise CircuitError(f"{what} {n} is over {most}")
     return n
+
+
+def words_behind(m):
+    """The label and whether `kind 5` stands behind a record, each at most once."""
+    found = re.findall(r"(label|kind)\s+(\d+)", m["more"])
+    for word in ("label", "kind"):
+        if sum(w == word for w, n in found) > 1:
+            raise CircuitError(f"'{m[0].strip()}' says {word} twice")
+    behind = dict(found)
+    if "kind" in behind and (behind["kind"] != "5" or m["kind"]):
+        raise CircuitError(f"'{m[0].strip()}': only `kind 5` may be said, and not of a definition")
+    return struct.pack("<H", number(behind.get("label"), 65535, "label")), "kind" in behind
+
+
+def set_tail(m):
+    """The count and the entries of a register Set."""
+    keys = [(number(a, 255, "name"), number(b, 65535, "index")) for a, b in re.findall(r"\(\s*(\d+)\s*,\s*(\d+)", m["keys"])]
+    if len(keys) > 16:
+        raise CircuitError(f"'{m[0].strip()}' has {len(keys)} register entries; 16 are the most")
+    for a, b in zip(keys, keys[1:]):
+        if a >= b:
+            raise CircuitError(f"'{m[0].strip()}': the entry ({b[0]},{b[1]}) does not ascend after ({a[0]},{a[1]})")
+    return bytes([len(keys)]) + b"".join(struct.pack("<BH", *k) for k in keys)
 
 
 def record(m):
     """The bytes of one record, as document 01 lays them out."""
-    label = struct.pack("<H", number(m["label"], 65535, "label"))
+    label, five = words_behind(m)
     if m["kind"]:
         end = int(m["dend"] == "F")
         tail = struct.pack("<BH", number(m["dname"], 255, "name"), number(m["length"], 65535, "length"))
@@ -46,9 +74,8 @@ def record(m):
     if m["form"]:
         register, tail = (1 if m["form"] == "All" else 2), bytes([number(m["name"], 255, "name")])
     elif m["keys"] is not None:
-        keys = [(number(a, 255, "name"), number(b, 65535, "index")) for a, b in re.findall(r"\(\s*(\d+)\s*,\s*(\d+)", m["keys"])]
-        register, tail = 3, bytes([len(keys)]) + b"".join(struct.pack("<BH", *k) for k in keys)
-    head = bytes([int(m["end"] == "F"), 5 if m["five"] else 0, form])
+        register, tail = 3, set_tail(m)
+    head = bytes([int(m["end"] == "F"), 5 if five else 0, form])
     return head + struct.pack("<Q", mask) + bytes([register]) + label + tail
 
 
@@ -57,22 +84,25 @@ def circuit_file(records):
     at = 2 + 4 * len(records)
     pairs = b""
     for r in records:
+        if at > 65535:
+            raise CircuitError("an offset is over 65535")
         pairs += struct.pack("<HH", at, len(r))
         at += len(r)
-    if records and at - len(records[-1]) > 65535:
-        sys.exit("circuit.py: an offset is over 65535")
     return struct.pack("<H", len(records)) + pairs + b"".join(records)
 
 
 def parse(text):
+    """The records' bytes of a text in bench notation."""
     records, at = [], 0
     text = re.sub(r"#.*", "", text)
     while text[at:].strip():
         m = RECORD.match(text, at)
         if not m:
-            sys.exit(f"circuit.py: no record at '{text[at:].strip()[:20]}'")
+            raise CircuitError(f"no record at '{text[at:].strip()[:20]}'")
         records.append(record(m))
         at = m.end()
+    if len(records) > 512:
+        raise CircuitError(f"{len(records)} records; 512 are the most")
     return records
 
 
@@ -80,7 +110,10 @@ def shown(r):
     """One record, in the notation; its bytes where the notation does not give just these bytes, as where it breaks a rule."""
     text = notation(r) if len(r) >= 14 else ""
     m = RECORD.fullmatch(text)
-    return text if m and record(m) == r else "bytes " + r.hex()
+    try:
+        return text if m and record(m) == r else "bytes " + r.hex()
+    except CircuitError:
+        return "bytes " + r.hex()
 
 
 def notation(r):
@@ -102,23 +135,43 @@ def notation(r):
 
 
 def show(data):
-    if len(data) < 2 or len(data) < 2 + 4 * struct.unpack("<H", data[:2])[0]:
-        sys.exit("circuit.py: the file is too short for its header and pairs")
+    """A line for each record, and a last line where the file is torn: its pairs do not lead one after the other to its end."""
+    if len(data) < 2:
+        raise CircuitError("the file is torn: it has not even the two bytes of its record count")
     n = struct.unpack("<H", data[:2])[0]
+    if n > 512:
+        raise CircuitError(f"the header says {n} records; 512 are the most")
+    if len(data) < 2 + 4 * n:
+        raise CircuitError(f"the file is torn: its table of {n} pairs is cut off")
+    lines, due, torn = [], 2 + 4 * n, None
     for i in range(n):
         offset, length = struct.unpack("<HH", data[2 + 4 * i:6 + 4 * i])
-        print(f"{i}: {shown(data[offset:offset + length])}")
+        if offset != due and torn is None:
+            torn = f"the file is torn: pair {i} starts at {offset}, where {due} is due"
+        due = offset + length
+        lines.append(f"{i}: {shown(data[offset:offset + length])}")
+    if torn is None and due != len(data):
+        torn = f"the file is torn: its records end at {due}, the file at {len(data)}"
+    return lines, torn
 
 
 def main(words):
     if words[:1] == ["write"] and len(words) == 2:
         text = sys.stdin.read() if words[1] == "-" else words[1]
         sys.stdout.buffer.write(circuit_file(parse(text)))
-    elif words == ["show"]:
-        show(sys.stdin.buffer.read())
+    elif words[:1] == ["show"] and len(words) <= 2:
+        data = open(words[1], "rb").read() if len(words) == 2 else sys.stdin.buffer.read()
+        lines, torn = show(data)
+        for line in lines:
+            print(line)
+        if torn:
+            raise CircuitError(torn)
     else:
         sys.exit(__doc__)
 
 
 if __name__ == "__main__":
-    main(sys.argv[1:])
+    try:
+        main(sys.argv[1:])
+    except (CircuitError, OSError, UnicodeDecodeError) as wrong:
+        sys.exit(f"circuit.py: {wrong}")
