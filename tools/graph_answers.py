@@ -1,9 +1,11 @@
 #!/usr/bin/env python3
-"""What document 01 answers for the files of crates/blocks_runs and crates/limits, computed from the document alone.
+"""What document 01 answers for the files of crates/blocks_runs, crates/limits and crates/query_runs, computed from the document alone.
 
   graph_answers.py stdin | diff - crates/blocks_runs/stdin      the files, each behind its length in two bytes
   graph_answers.py stdout | diff - crates/blocks_runs/stdout    what `blocks` prints for each
   graph_answers.py limits | diff - crates/limits/stdout
+  graph_answers.py query-files | diff - crates/query_runs/stdin  the same for crates/query_runs
+  graph_answers.py queries | diff - crates/query_runs/stdout
   graph_answers.py blocks < FILE                                what `blocks` prints for one circuit file"""
 import sys
 
@@ -20,7 +22,7 @@ class Graph:
     """The state of document 01's "Insertion"; an end is 0 (back: last) or 1 (front: first)."""
 
     def __init__(self):
-        self.places, self.operations, self.edges = [], [], set()
+        self.places, self.kinds, self.operations, self.edges = [], [], [], set()
         self.map, self.all, self.block = [{}, {}], [None, None], [set(), set()]
         self.registers, self.counts = [{}, {}], [0, 0]
 
@@ -89,30 +91,65 @@ class Graph:
         if ends:
             self.map, self.all, self.block = ends
         self.operations.append(qubits is not None)
+        self.kinds.append(r[1])
         self.places.append(self.counts[0] if end == 0 else -self.counts[1] - 1)
         self.counts[end] += 1
         return v
 
+    def before(self, v):
+        return {a for a, b in self.edges if b == v}
+
+    def after(self, v):
+        return {b for a, b in self.edges if a == v}
+
+    def blocking(self, v, executed):
+        """All nodes other than v from which it is reached, less the executed ones."""
+        found, todo = set(), list(self.before(v))
+        while todo:
+            u = todo.pop()
+            if u not in found:
+                found.add(u)
+                todo += self.before(u)
+        return found - {v} - set(executed)
+
+    def step(self, current, executed):
+        """A step of the walk: the block, None where there is none, and the two sets afterwards."""
+        if not current and not executed:
+            return self.block[1], self.block[1], executed
+        executed = executed | current
+        found = {b for a in current for b in self.after(a) if not self.blocking(b, executed)}
+        return (found or None), found, executed
+
     def blocks(self):
         """The whole walk, step by step from two empty sets."""
-        before = {v: {a for a, b in self.edges if b == v} for v in range(len(self.places))}
-
-        def reaching(v):
-            found, todo = set(), list(before[v])
-            while todo:
-                u = todo.pop()
-                if u not in found:
-                    found.add(u)
-                    todo += before[u]
-            return found - {v}
-
-        blocking = {v: reaching(v) for v in before}
-        found, current, executed = [], self.block[1], set()
-        while current:
-            found.append(sorted(current))
-            executed |= current
-            current = {b for a, b in self.edges if a in current and not blocking[b] - executed}
+        found, (block, *state) = [], self.step(set(), set())
+        while block:
+            found.append(sorted(block))
+            block, *state = self.step(*state)
         return found
+
+    def circuit(self):
+        """Kinds 1 to 5 by place, then kind 0 by place."""
+        by_place = sorted(range(len(self.places)), key=lambda v: self.places[v])
+        return [v for v in by_place if 1 <= self.kinds[v] <= 5] + [v for v in by_place if self.kinds[v] == 0]
+
+    def chain(self):
+        """From the smallest node of the last block down, each time to the smallest direct predecessor one block lower."""
+        found = self.blocks()
+        numbers = {v: k for k, b in enumerate(found) for v in b}
+        if not found:
+            return []
+        chain = [min(found[-1])]
+        while numbers[chain[-1]] > 0:
+            chain.append(min(u for u in self.before(chain[-1]) if numbers.get(u) == numbers[chain[-1]] - 1))
+        return chain
+
+    def front_layer(self, executed, layer, v):
+        freed = sorted(w for w in self.after(v) if not self.blocking(w, [v, *executed]))
+        if freed or not self.after(v):
+            at = layer.index(v)
+            return layer[:at] + layer[at + 1:] + freed
+        return layer
 
 
 def load(s):
@@ -174,6 +211,79 @@ def limits():
             print(f"  one more: {x}")
 
 
+def query_files():
+    """Circuits of several blocks at both ends, with definitions, a kind 5, no operation, no record, and a refused one."""
+    texts = ["B{0} B{1} B{0,1}", "B{0} B All B All F{3} B{3}", "B All F{0} F{1} B{0,1} B{2} F{2}", "F{0} F{0} F{0}", "",
+             "Bit name 1 length 2; B{0} kind 5; F Float name 2 length 1; B{1}; F{0} label 7; B None", "B None/All name 2; B None", "B{} B All",
+             "B{0,1} B{0} B{1} B{2,3} B{3} B{1,3} B{0,2} F{0,3} F{1}"]
+    return [circuit_file(parse(t)) for t in texts] + [b"\0"]
+
+
+def asked(title, size, buffer, tests, answer):
+    """A line: the first cause whose test holds, or the answer's length, and the buffer of 9999s afterwards."""
+    for cause, holds in tests:
+        if holds:
+            return print(f"{title} refused {cause} |" + " 9999" * min(size, 6))
+    found = answer()
+    if size < len(found):
+        return print(f"{title} refused 10 |" + " 9999" * min(size, 6))
+    shown = (found + [9999] * size)[:min(size, 6)]
+    print(f"{title} {len(found) if buffer is None else buffer} |" + "".join(f" {x}" for x in shown))
+
+
+def asked_of_node(g, sound, v, size):
+    print(f"node {v} buffer {size}")
+    tests = [(11, not sound), (8, v >= len(g.places))]
+    asked("execution_blocked", size, None, tests, lambda: sorted(g.blocking(v, [0, 0, 700])))
+    asked("blocking_predecessors", size, None, tests, lambda: sorted(g.before(v) - {0, 700}))
+    asked("successors", size, None, tests, lambda: sorted(g.after(v)))
+    asked("new_front_layer", size, None, tests, lambda: g.front_layer([0], [1, v, 700, v], v))
+    asked("new_front_layer without it", size, None, tests + [(9, v != 700)], lambda: [])
+
+
+def asked_of_graph(g, sound, size):
+    tests, found = [(11, not sound)], g.blocks()
+    numbers = {v: k for k, b in enumerate(found) for v in b}
+    asked("to_circuit", size, None, tests, g.circuit)
+    asked("chain", size, None, tests, g.chain)
+    asked("whole_walk", size, len(found), tests, lambda: [numbers.get(v, 65535) for v in range(len(g.places))])
+
+
+def asked_to_step(g, sound, state, size):
+    """A line for a step, and the two sets afterwards."""
+    block, *after = g.step(*state) if sound and all(v < len(g.places) for v in state[0]) else (None, *state)
+    refused = 11 if not sound else 8 if any(v >= len(g.places) for v in state[0]) else 10 if block is not None and size < len(block) else None
+    after = state if refused else after
+    said = f"refused {refused}" if refused else "none" if block is None else str(len(block))
+    entries = [] if refused or block is None else sorted(block)
+    print(f"next buffer {size}: {said} {len(after[0])} {len(after[1])} |" + "".join(f" {x}" for x in (entries + [9999] * size)[:min(size, 6)]))
+    return after
+
+
+def queries():
+    for s in query_files():
+        print(f"file of {len(s)} bytes")
+        try:
+            g = load(s)
+        except Refused as x:
+            print(f"load {x}")
+            g = Graph()
+        for sound in (True, False):
+            if not sound:
+                print("not sound")
+            absent = len(g.places) if sound else 0
+            for size in (0, 1, 2, 512):
+                for v in (0, 2, absent, 65535):
+                    asked_of_node(g, sound, v, size)
+                asked_of_graph(g, sound, size)
+            state = (set(), set())
+            for t in range(5):
+                for size in (0, 512):
+                    state = asked_to_step(g, sound, state, size)
+            for v in (0, absent):
+                asked_to_step(g, sound, ({v}, set()), 512)
+
+
 def main(words):
     if words == ["stdin"]:
         sys.stdout.buffer.write(b"".join(len(s).to_bytes(2, "little") + s for s in runs()))
@@ -181,6 +291,10 @@ def main(words):
         print("".join(f"file of {len(s)} bytes\n{text(s)}" for s in runs()), end="")
     elif words == ["limits"]:
         limits()
+    elif words == ["query-files"]:
+        sys.stdout.buffer.write(b"".join(len(s).to_bytes(2, "little") + s for s in query_files()))
+    elif words == ["queries"]:
+        queries()
     elif words == ["blocks"]:
         print(text(sys.stdin.buffer.read()), end="")
     else:

@@ -1,0 +1,262 @@
+// Queries, steps, walks, chains and conversions on several circuits, each with buffers that are too short, one too short and long, on nodes that are there
+// and absent, and on a graph that is not sound. On standard input each circuit file stands behind its length in two bytes, little-endian.
+// Beside each answer stands the start of the lent buffer, which held 9999. tools/graph_answers.py computes the same from document 01.
+use file::Outcome;
+use file::Refusal;
+use file::RefusalValue;
+use graph::CircuitDag;
+use graph::NodeIndex;
+use libc::STDIN_FILENO;
+use libc::STDOUT_FILENO;
+use queries::Query;
+use walk::BlockCount;
+use walk::NextBlock;
+use walk::ParallelBlocks;
+
+fn print(text: &[u8]) {
+    io::write_all(STDOUT_FILENO, text);
+}
+
+fn print_number(n: usize) {
+    print(b" ");
+    io::print_decimal(STDOUT_FILENO, n as u64);
+}
+
+fn print_refusal(r: Refusal) {
+    print(b" refused");
+    print_number(file::refusal_number(r) as usize);
+    let value = file::refusal_value(r);
+    match value {
+        RefusalValue::Nothing => {}
+        RefusalValue::At(i) => {
+            print(b" at");
+            print_number(i);
+        }
+    }
+}
+
+// The first six entries of a buffer, and the end of the line.
+fn print_buffer(buffer: &[u16]) {
+    print(b" |");
+    let mut i: usize = 0;
+    while i < 6 {
+        if buffer.len() <= i {
+            break;
+        }
+        print_number(file::to_index(buffer[i]));
+        i += 1;
+    }
+    print(b"\n");
+}
+
+fn print_query(title: &[u8], answer: Query, buffer: &[u16]) {
+    print(title);
+    match answer {
+        Query::Entries(k) => print_number(k),
+        Query::Refused(r) => print_refusal(r),
+    }
+    print_buffer(buffer);
+}
+
+// A buffer before a call.
+fn fill(buffer: &mut [u16]) {
+    let n = buffer.len();
+    let mut i: usize = 0;
+    while i < n {
+        buffer[i] = 9999;
+        i += 1;
+    }
+}
+
+// A line for node v and a buffer of this length.
+fn print_heading(v: u16, length: usize) {
+    print(b"node");
+    print_number(file::to_index(v));
+    print(b" buffer");
+    print_number(length);
+    print(b"\n");
+}
+
+// What node v waits for.
+fn probe_node(g: CircuitDag, v: u16, buffer: &mut [u16]) {
+    print_heading(v, buffer.len());
+    let executed = [0u16, 0, 700];
+    fill(&mut *buffer);
+    let x = queries::execution_blocked(g, &executed, NodeIndex(v), &mut *buffer);
+    print_query(b"execution_blocked", x, &*buffer);
+    fill(&mut *buffer);
+    let y = queries::blocking_predecessors(g, &executed, NodeIndex(v), &mut *buffer);
+    print_query(b"blocking_predecessors", y, &*buffer);
+}
+
+// What follows node v.
+fn probe_successors(g: CircuitDag, v: u16, buffer: &mut [u16]) {
+    fill(&mut *buffer);
+    let x = queries::successors(g, NodeIndex(v), &mut *buffer);
+    print_query(b"successors", x, &*buffer);
+}
+
+// The new front layer of a layer that has node v and of one that has it not.
+fn probe_layer(g: CircuitDag, v: u16, buffer: &mut [u16]) {
+    let executed = [0u16];
+    let with = [1u16, v, 700, v];
+    fill(&mut *buffer);
+    let x = queries::new_front_layer(g, &executed, &with, NodeIndex(v), &mut *buffer);
+    print_query(b"new_front_layer", x, &*buffer);
+    let without = [700u16];
+    fill(&mut *buffer);
+    let y = queries::new_front_layer(g, &executed, &without, NodeIndex(v), &mut *buffer);
+    print_query(b"new_front_layer without it", y, &*buffer);
+}
+
+// All that takes a node.
+fn probe_both(g: CircuitDag, v: u16, buffer: &mut [u16]) {
+    probe_node(g, v, &mut *buffer);
+    probe_successors(g, v, &mut *buffer);
+    probe_layer(g, v, &mut *buffer);
+}
+
+// What takes a graph alone.
+fn probe_graph(g: CircuitDag, buffer: &mut [u16]) {
+    fill(&mut *buffer);
+    let x = queries::to_circuit(g, &mut *buffer);
+    print_query(b"to_circuit", x, &*buffer);
+    fill(&mut *buffer);
+    let y = planning::chain(g, &mut *buffer);
+    print_query(b"chain", y, &*buffer);
+    fill(&mut *buffer);
+    let count = walk::whole_walk(g, &mut *buffer);
+    print(b"whole_walk");
+    match count {
+        BlockCount::Blocks(k) => print_number(k),
+        BlockCount::Refused(r) => print_refusal(r),
+    }
+    print_buffer(&*buffer);
+}
+
+// How many nodes a set has.
+fn count_marks(marks: [bool; 512]) -> usize {
+    let mut k: usize = 0;
+    let mut v: usize = 0;
+    while v < 512 {
+        if marks[v] {
+            k = if k < 512 { k + 1 } else { k };
+        }
+        v += 1;
+    }
+    k
+}
+
+// A step: its answer, the sizes of its two sets afterwards, and the buffer.
+fn probe_step(g: CircuitDag, state: ParallelBlocks, buffer: &mut [u16]) -> ParallelBlocks {
+    fill(&mut *buffer);
+    let x = state.next(g, &mut *buffer);
+    print(b"next buffer");
+    print_number(buffer.len());
+    print(b":");
+    let answer = x.answer;
+    match answer {
+        NextBlock::Block(k) => print_number(k),
+        NextBlock::None => print(b" none"),
+        NextBlock::Refused(r) => print_refusal(r),
+    }
+    let walk = x.walk;
+    let current = walk.current;
+    let executed = walk.executed;
+    print_number(count_marks(current));
+    print_number(count_marks(executed));
+    print_buffer(&*buffer);
+    walk
+}
+
+// A step with no buffer, and one with this buffer from where the first left the walk.
+fn probe_steps(g: CircuitDag, state: ParallelBlocks, buffer: &mut [u16]) -> ParallelBlocks {
+    let mut none = [0u16; 0];
+    let after = probe_step(g, state, &mut none);
+    probe_step(g, after, buffer)
+}
+
+// The walk's first five steps.
+fn probe_walk(g: CircuitDag, buffer: &mut [u16]) {
+    let a = probe_steps(g, ParallelBlocks::new(), &mut *buffer);
+    let b = probe_steps(g, a, &mut *buffer);
+    let c = probe_steps(g, b, &mut *buffer);
+    let d = probe_steps(g, c, &mut *buffer);
+    probe_steps(g, d, &mut *buffer);
+}
+
+// A step from a state whose current set has node v alone, which may be absent.
+fn probe_current(g: CircuitDag, v: usize, buffer: &mut [u16]) {
+    if v < 512 {
+        let mut current = graph::no_marks();
+        current[v] = true;
+        let executed = graph::no_marks();
+        let state = ParallelBlocks { current, executed };
+        probe_step(g, state, buffer);
+    }
+}
+
+// Everything on one graph, with one buffer; v is the number after the last node.
+fn probe_with(g: CircuitDag, v: usize, buffer: &mut [u16]) {
+    let last = (v % 65536) as u16;
+    probe_both(g, 0, &mut *buffer);
+    probe_both(g, 2, &mut *buffer);
+    probe_both(g, last, &mut *buffer);
+    probe_both(g, 65535, &mut *buffer);
+    probe_graph(g, &mut *buffer);
+}
+
+// Everything on one graph: with no buffer, buffers of one and two entries, and a long one.
+fn probe(g: CircuitDag, v: usize) {
+    let mut none = [0u16; 0];
+    let mut one = [0u16; 1];
+    let mut two = [0u16; 2];
+    let mut long = [0u16; 512];
+    probe_with(g, v, &mut none);
+    probe_with(g, v, &mut one);
+    probe_with(g, v, &mut two);
+    probe_with(g, v, &mut long);
+    probe_walk(g, &mut long);
+    probe_current(g, 0, &mut long);
+    probe_current(g, v, &mut long);
+}
+
+// A circuit file: its graph, then the same with one back insertion too many, which is not sound.
+fn probe_file(bytes: &[u8]) {
+    print(b"file of");
+    print_number(bytes.len());
+    print(b" bytes\n");
+    let loaded = insertion::load(bytes);
+    let answer = loaded.answer;
+    if let Outcome::Refused(r) = answer {
+        print(b"load");
+        print_refusal(r);
+        print(b"\n");
+    }
+    let g = loaded.graph;
+    probe(g, g.nodes.count);
+    let mut unsound = g;
+    unsound.backs = if g.backs < 512 { g.backs + 1 } else { 0 };
+    print(b"not sound\n");
+    probe(unsound, 0);
+}
+
+// The number in two bytes.
+fn pair(low: u8, high: u8) -> usize {
+    low as usize + 256 * (high as usize)
+}
+
+fn main() {
+    let mut input = io::large_buffer();
+    let n = io::read_full(STDIN_FILENO, &mut input);
+    let mut at: usize = 0;
+    while at + 2 <= n {
+        let start = at + 2;
+        let size = pair(input[at], input[at + 1]);
+        if n - start < size {
+            return;
+        }
+        probe_file(&input[start..start + size]);
+        at = start + size;
+    }
+}
