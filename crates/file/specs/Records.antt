@@ -82,9 +82,13 @@ unfoldable pub ascendFrom : ℕ → ℕ → List ℕ → Bool
 ascendFrom zero k s = true
 ascendFrom (suc m) k s = entryBefore s k && ascendFrom m (k + 1) s
 
+-- "a count byte c, 0 to 16": the longest register list
+abbrev pub mostEntries : ℕ
+mostEntries = 16
+
 -- "3 a count byte c, 0 to 16, then c entries .., strictly ascending by name, then index"; "The length is exact: .. 15 + 3c"
 unfoldable pub setRule : List ℕ → Bool
-setRule s = eqb (length s) (15 + 3 * count s) && leb (count s) 16 && ascendFrom (count s - 1) 0 s
+setRule s = eqb (length s) (15 + 3 * count s) && leb (count s) mostEntries && ascendFrom (count s - 1) 0 s
 
 -- "The length is exact: 14, 15, 15, 15 + 3c or 17."
 unfoldable pub tailRule : List ℕ → Bool

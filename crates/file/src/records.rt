@@ -17,6 +17,9 @@ use crate::pairs::field_at;
 use crate::pairs::read_u16;
 use crate::pairs::wide;
 
+// The longest register list.
+const MOST_ENTRIES: usize = 16;
+
 fn wide64(x: usize) -> u64
     ensures { λ r. ⌜ r ≡ x ⌝ }
 {
@@ -105,7 +108,7 @@ fn is_set(s: &[u8]) -> bool
     if s.len() != 15 + 3 * c {
         return false;
     }
-    if 16 < c {
+    if MOST_ENTRIES < c {
         return false;
     }
     is_ascending(s, c)

@@ -1,6 +1,8 @@
 -- `file::records::is_set` meets its contract. Assumes nothing.
 use Rattle.file.proofs.RecordLaws.{set-short}
-use Rattle.file.specs.Records.{setRule}
+use Prim.Native.Nat.{_≤_, _<_}
+use native.Mathlib.Omega.{arith}
+use Rattle.file.specs.Records.{mostEntries, setRule}
 use borrow.Author.Tests.{eq-eqb, ne-eqb, le-leb, lt-leb}
 use mathlib.Core.Path.{refl}
 use borrow.Author.Needs.{needs}
@@ -28,14 +30,18 @@ returns-2 c = rw (← c .before .wide .ensures .0, ne-eqb _ _ (c .if2 .taken)) r
 
 returns-3 : tie.Need-returns-3
 unfolding setRule
-returns-3 c = rw (← c .before .before .wide .ensures .0, eq-eqb _ _ (c .before .if2 .left), lt-leb _ _ (c .if3 .taken)) refl
+returns-3 c =
+    let many : mostEntries < c .before .before .wide .result = omega (arith, c .if3 .taken) in
+    rw (← c .before .before .wide .ensures .0, eq-eqb _ _ (c .before .if2 .left), lt-leb _ _ many) refl
 
 is-ascending-requires : tie.Need-is-ascending-requires
 is-ascending-requires c κs = search needs
 
 returns-4 : tie.Need-returns-4
 unfolding setRule
-returns-4 c = rw (← c .before .before .before .wide .ensures .0, eq-eqb _ _ (c .before .before .if2 .left), le-leb _ _ (c .before .if3 .left)) (c .is-ascending .ensures)
+returns-4 c =
+    let few : c .before .before .before .wide .result ≤ mostEntries = omega (arith, c .before .if3 .left) in
+    rw (← c .before .before .before .wide .ensures .0, eq-eqb _ _ (c .before .before .if2 .left), le-leb _ _ few) (c .is-ascending .ensures)
 
 pub is-set-spec : {M : Type 1} → statement M
 is-set-spec =
