@@ -1,5 +1,5 @@
 //! The original and ours on the same inputs, in turns, by the thread's processor time; medians and ratios.
-use crate::circuits::{self, file_of, parts_of, Record};
+use crate::circuits::{self, file_of, parts_of, Qubits, Record, Registers};
 use crate::sawhekonu::{self, CircuitDag, Walk};
 use crate::{given, plain};
 use std::hint::black_box;
@@ -266,6 +266,7 @@ pub fn main(turns: usize) {
     print_table("Single insertions, a call", "| row | original | ours | original / ours |", &tables[4]);
     growth(turns);
     worst(turns);
+    worst_keys(turns);
 }
 
 fn growth(turns: usize) {
@@ -370,4 +371,38 @@ fn worst_layers(dag: &CircuitDag) -> CircuitDag {
         worst.edges.to[k] = dag.edges.to[i];
     }
     worst
+}
+
+/// 256 register keys, 16 a record, then records that measure keys which stand already: one key each, or 16.
+fn key_records(key: fn(usize) -> (u8, u16), records: usize, each: usize) -> Vec<Record> {
+    let mut keys: Vec<(u8, u16)> = (0..256).map(key).collect();
+    keys.sort();
+    let list = |keys: &[(u8, u16)]| Record { front: false, kind: 0, label: 0, qubits: Qubits::Set(1), registers: Registers::Set(keys.to_vec()) };
+    (0..records)
+        .map(|k| {
+            let start = k * 16 % 256;
+            if k < 16 { list(&keys[start..start + 16]) } else { list(&keys[k * 37 / 16 % 16 * 16..][..each]) }
+        })
+        .collect()
+}
+
+/// Keys that all fall into one cell of the tables of register keys, beside keys with a cell each.
+pub fn worst_keys(turns: usize) {
+    let spread: fn(usize) -> (u8, u16) = |j| ((j / 64) as u8, (j % 64) as u16);
+    let one_cell: fn(usize) -> (u8, u16) = |j| ((8 * j % 256) as u8, (2048 * (j / 32) + 5) as u16);
+    let mut lines = Vec::new();
+    for (name, key) in [("a cell each", spread), ("one cell for all", one_cell)] {
+        let dag = case(&key_records(key, 16, 16)).ours;
+        assert!(dag.is_sound() && dag.last_registers.count == 256);
+        let sound = sound_time(&dag, turns);
+        let one = load_times(&case(&key_records(key, 480, 1)), turns);
+        let all = load_times(&case(&key_records(key, 512, 16)), turns);
+        let cells = |t: &Turns| format!("{:.1} | {:.1} | {:.2}", t.median(0), t.median(1), t.ratio(0, 1));
+        lines.push(format!("| {name} | {sound:.2} | {} | {} |", cells(&one), cells(&all)));
+    }
+    print_table(
+        "256 register keys",
+        "| keys | is_sound | load of 480 records, one key each: original | ours | original / ours | load of 512 records, 16 keys each: original | ours | original / ours |",
+        &lines,
+    );
 }
