@@ -131,6 +131,8 @@ def main():
     for c, n in [(0, 0), (14, 14), (15, 15), (16, 16), (17, 17), (16, 15), (16, 17)]:
         tail = bytes([c]) + entries(*[(1, k) for k in range(n)])[1:]
         print(f"{c} and {n}: {text(parse_all(circuit_file([record(register=3, tail=tail)])))}")
+    for i in range(8):
+        print(f"record {i}:" + "".join(f" {b}" for b in (part(GOOD, i) if read(GOOD, i) is None else b"")))
 
 
 if __name__ == "__main__":

@@ -1,9 +1,12 @@
 // Runs of the circuit file: every prefix and every change of one byte of a small good file, and the limits. Each distinct answer
 // is printed with how often it came; tools/file_answers.py prints the same from document 01 alone.
+ghost use mathlib.Core.Path.{_≡_};
 ghost use Prim.Native.Nat.{_<_, _≤_};
+ghost use Rattle.file.specs.Pairs.{Part};
 use file::FileCheck;
 use file::Parsed;
 use file::Place;
+use file::RecordPart;
 use file::Refusal;
 use file::RefusalValue;
 use libc::STDOUT_FILENO;
@@ -153,6 +156,20 @@ const GOOD: [u8; 141] = [
     0,
 ];
 
+// The bytes of a record that was read.
+fn bytes_of<'a>(part: RecordPart<'a>) -> &'a [u8]
+    ensures { λ r. ⌜ r ≡ part .entry .bytes ⌝ }
+{
+    part.bytes
+}
+
+// Record i, by the record reader.
+fn read_bytes<'a>(file: &'a [u8], i: usize) -> &'a [u8]
+    ensures { λ r. ⌜ Part (file .entry) r i ⌝ }
+{
+    bytes_of(file::read_record(file, i))
+}
+
 // The first refusal in checking a file and parsing its records in order.
 fn parse_all(file: &[u8]) -> FileCheck {
     let found = file::check_file(file);
@@ -166,7 +183,7 @@ fn parse_records(file: &[u8]) -> FileCheck {
     let n = file::record_count(file);
     let mut k: usize = 0;
     while k < n {
-        let parsed = file::parse_record(file::record_at(file, k));
+        let parsed = file::parse_record(read_bytes(file, k));
         if let Parsed::Refused(_) = parsed {
             return FileCheck::Refused(Refusal::BadRecord(k));
         }
@@ -380,6 +397,36 @@ fn print_limits() {
     print_limit(b"65535 in the header alone", &most, 2);
 }
 
+// A byte behind a space.
+fn print_byte(b: u8) {
+    io::write_all(STDOUT_FILENO, b" ");
+    io::print_decimal(STDOUT_FILENO, b as u64);
+}
+
+// A record's bytes, as the reader hands them back; none where the record is absent.
+fn print_record(file: &[u8], i: usize) {
+    let part = read_bytes(file, i);
+    io::write_all(STDOUT_FILENO, b"record ");
+    io::print_decimal(STDOUT_FILENO, i as u64);
+    io::write_all(STDOUT_FILENO, b":");
+    let mut k: usize = 0;
+    while k < part.len() {
+        print_byte(part[k]);
+        k += 1;
+    }
+    io::write_all(STDOUT_FILENO, b"\n");
+}
+
+// Every record of the good file, and the one after the last.
+fn print_records() {
+    let file = GOOD;
+    let mut i: usize = 0;
+    while i < 8 {
+        print_record(&file, i);
+        i += 1;
+    }
+}
+
 // Register lists about their limit: the count byte and the entries.
 fn print_lists() {
     io::write_all(STDOUT_FILENO, b"register lists\n");
@@ -412,4 +459,5 @@ fn main() {
     print_counts(count_changes(false));
     print_limits();
     print_lists();
+    print_records();
 }
