@@ -1,8 +1,12 @@
 -- What the host gets of each answer: two numbers, "this paper's number and values for each of the enum's cases". Assumes nothing.
+use mathlib.Core.Bool.{cond}
 use mathlib.Core.List.{List}
 use Prim.Native.Nat.{ℕ}
 use Rattle.file.specs.Refusals.{numberOf, valueOf}
 use Rattle.file.specs.declared.Refusal.{Refusal}
+use Rattle.file.specs.declared.Refusal.the-variants.{Absent, Unsound}
+use Rattle.file.specs.declared.Place.{Place}
+use Rattle.file.specs.declared.Place.the-variants.{At as Stands, Refused as NotRead}
 use Rattle.file.specs.declared.RefusalValue.{RefusalValue}
 use Rattle.file.specs.declared.RefusalValue.the-variants.{Nothing, At}
 use Rattle.queries.specs.declared.Query.{Query}
@@ -18,10 +22,16 @@ use Rattle.walk.specs.declared.NextBlock.{NextBlock}
 use Rattle.walk.specs.declared.NextBlock.the-variants.{Block, None, Refused as NotStepped}
 use Rattle.walk.specs.declared.BlockCount.{BlockCount}
 use Rattle.walk.specs.declared.BlockCount.the-variants.{Blocks, Refused as NotWalked}
-use Rattle.walk.specs.declared.ParallelBlocks.{ParallelBlocks}
-use Rattle.walk.specs.Blocks.{Stepped, Walked}
+use Rattle.graph.specs.declared.CircuitDag.{CircuitDag}
+use Rattle.graph.specs.Soundness.{sound}
+use Rattle.insertion.specs.Limits.{insertOf}
+use Rattle.walk.specs.Blocks.{Stepped, Walked, next}
 use Rattle.host.specs.declared.HostAnswer.{HostAnswer}
+use Rattle.host.specs.declared.HostDag.{HostDag}
 use Rattle.host.specs.declared.HostGraph.{HostGraph}
+use Rattle.host.specs.declared.HostPlace.{HostPlace}
+use Rattle.host.specs.declared.HostWalk.{HostWalk}
+use Rattle.host.specs.Marks.{isDag, dagOf, hostOf, isWalk, walkOf, hostWalk}
 
 -- a refusal's value; 65535 where it returns the number alone
 abbrev pub numberOr : RefusalValue → ℕ
@@ -35,6 +45,10 @@ refuses r = record { refusal = numberOf r; value = numberOr (valueOf r) }
 -- accepted: 0, and what the call found
 abbrev pub accepts : ℕ → HostAnswer
 accepts n = record { refusal = 0; value = n }
+
+-- the refusal of what no graph has, a node number past 16 bits or a set of bytes that are no marks: "queries 11, 8"
+abbrev pub noNode : CircuitDag → HostAnswer
+noNode g = cond (sound g) (refuses Absent) (refuses Unsound)
 
 -- a query: how many entries it wrote
 abbrev pub ofQuery : Query → HostAnswer
@@ -62,13 +76,22 @@ abbrev pub ofWalk : BlockCount → HostAnswer
 ofWalk (Blocks k) = accepts k
 ofWalk (NotWalked r) = refuses r
 
+-- a record's place: 0, its offset and its length
+abbrev pub ofPlace : Place → HostPlace
+ofPlace (Stands offset length) = record { answer = accepts 0; offset = offset; length = length }
+ofPlace (NotRead r) = record { answer = refuses r; offset = 0; length = 0 }
+
 -- the answer beside the graph
 abbrev pub graphInserted : Inserted → HostGraph
-graphInserted x = record { answer = ofInserted (x .answer); graph = x .graph }
+graphInserted x = record { answer = ofInserted (x .answer); graph = hostOf (x .graph) }
 
 -- the answer beside the graph
 abbrev pub graphLoaded : Loaded → HostGraph
-graphLoaded x = record { answer = ofLoaded (x .answer); graph = x .graph }
+graphLoaded x = record { answer = ofLoaded (x .answer); graph = hostOf (x .graph) }
+
+-- an insertion into what came: bytes that are no marks are refused 11 and come back
+abbrev pub insertedInto : HostDag → List ℕ → HostGraph
+insertedInto d part = cond (isDag d) (graphInserted (insertOf (dagOf d) part)) (record { answer = refuses Unsound; graph = d })
 
 -- the answer, and the lent buffer afterwards
 pub record HostLent : Type 0 where
@@ -83,12 +106,22 @@ lent x = record { answer = ofQuery (x .answer); buffer = x .buffer }
 abbrev pub walked : Walked → HostLent
 walked x = record { answer = ofWalk (x .answer); buffer = x .buffer }
 
+-- a query or a walk of what came: 11 for bytes that are no marks, else what the graph answers
+abbrev pub onDag : HostDag → List ℕ → (CircuitDag → HostLent) → HostLent
+onDag d buffer f = cond (isDag d) (f (dagOf d)) (record { answer = refuses Unsound; buffer = buffer })
+
 -- the answer, the walk and the lent buffer afterwards
 pub record HostStepped : Type 0 where
   pub answer : HostAnswer
-  pub walk : ParallelBlocks
+  pub walk : HostWalk
   pub buffer : List ℕ
 
 -- of a step
 abbrev pub stepped : Stepped → HostStepped
-stepped x = record { answer = ofStep (x .answer); walk = x .walk; buffer = x .buffer }
+stepped x = record { answer = ofStep (x .answer); walk = hostWalk (x .walk); buffer = x .buffer }
+
+-- a step of what came: 11 for a graph's bytes that are no marks, 8 for a walk's; the walk comes back
+abbrev pub steppedFrom : HostDag → HostWalk → List ℕ → HostStepped
+steppedFrom d w buffer = cond (isDag d)
+    (cond (isWalk w) (stepped (next (dagOf d) (walkOf w) buffer)) (record { answer = noNode (dagOf d); walk = w; buffer = buffer }))
+    (record { answer = refuses Unsound; walk = w; buffer = buffer })

@@ -1,10 +1,13 @@
 // Each answer of the crates below as two numbers.
 ghost use mathlib.Core.Path.{_≡_};
-ghost use Rattle.host.specs.Answers.{numberOr, accepts, refuses, ofQuery, ofInserted, ofLoaded, ofStep, ofWalk};
+ghost use Rattle.host.specs.Answers.{numberOr, accepts, refuses, noNode, ofQuery, ofInserted, ofLoaded, ofStep, ofWalk, ofPlace};
 use crate::HostAnswer;
+use crate::HostPlace;
 use file::Outcome;
+use file::Place;
 use file::Refusal;
 use file::RefusalValue;
+use graph::CircuitDag;
 use insertion::Answer;
 use queries::Query;
 use walk::BlockCount;
@@ -20,7 +23,7 @@ fn number_or(v: RefusalValue) -> usize
     }
 }
 
-fn refuse(x: Refusal) -> HostAnswer
+pub(crate) fn refuse(x: Refusal) -> HostAnswer
     ensures { λ r. ⌜ r ≡ refuses x ⌝ }
 {
     let number = file::refusal_number(x);
@@ -38,6 +41,16 @@ fn accept(n: usize) -> HostAnswer
         refusal: 0,
         value: n,
     }
+}
+
+// The refusal of what no graph has, a node number past 16 bits or a set of bytes that are no marks: 11, then 8.
+pub(crate) fn no_node(g: CircuitDag) -> HostAnswer
+    ensures { λ r. ⌜ r ≡ noNode g ⌝ }
+{
+    if graph::is_sound(g) {
+        return refuse(Refusal::Absent);
+    }
+    refuse(Refusal::Unsound)
 }
 
 pub(crate) fn of_query(x: Query) -> HostAnswer
@@ -83,5 +96,22 @@ pub(crate) fn of_walk(x: BlockCount) -> HostAnswer
     match x {
         BlockCount::Blocks(k) => accept(k),
         BlockCount::Refused(c) => refuse(c),
+    }
+}
+
+pub(crate) fn of_place(x: Place) -> HostPlace
+    ensures { λ r. ⌜ r ≡ ofPlace x ⌝ }
+{
+    match x {
+        Place::At { offset, length } => HostPlace {
+            answer: accept(0),
+            offset,
+            length,
+        },
+        Place::Refused(c) => HostPlace {
+            answer: refuse(c),
+            offset: 0,
+            length: 0,
+        },
     }
 }

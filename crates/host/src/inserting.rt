@@ -1,20 +1,26 @@
 // The empty graph, the load of a file, a single insertion, soundness.
 ghost use mathlib.Core.Path.{_≡_};
 ghost use Rattle.graph.specs.Dag.{empty};
-ghost use Rattle.graph.specs.Soundness.{sound};
-ghost use Rattle.insertion.specs.Limits.{insertOf};
 ghost use Rattle.insertion.specs.Load.{load};
-ghost use Rattle.host.specs.Answers.{graphInserted, graphLoaded};
+ghost use Rattle.host.specs.Answers.{graphLoaded, insertedInto};
+ghost use Rattle.host.specs.Marks.{hostOf, hostSound};
+use crate::HostDag;
 use crate::HostGraph;
 use crate::answers::of_inserted;
 use crate::answers::of_loaded;
+use crate::answers::refuse;
+use crate::crossing::dag_of;
+use crate::crossing::host_dag;
+use crate::crossing::is_dag;
+use file::Refusal;
 use graph::CircuitDag;
 
 #[no_mangle]
-pub extern "C" fn sawhekonu_new() -> CircuitDag
-    ensures { λ r. ⌜ r ≡ empty ⌝ }
+pub extern "C" fn sawhekonu_new() -> HostDag
+    ensures { λ r. ⌜ r ≡ hostOf empty ⌝ }
 {
-    CircuitDag::new()
+    let graph = CircuitDag::new();
+    host_dag(graph)
 }
 
 #[no_mangle]
@@ -26,26 +32,35 @@ pub extern "C" fn sawhekonu_load(file: &[u8]) -> HostGraph
     let graph = x.graph;
     HostGraph {
         answer: of_loaded(answer),
-        graph,
+        graph: host_dag(graph),
     }
 }
 
 #[no_mangle]
-pub extern "C" fn sawhekonu_insert(dag: CircuitDag, part: &[u8]) -> HostGraph
-    ensures { λ r. ⌜ r ≡ graphInserted (insertOf dag (now (part .entry))) ⌝ }
+pub extern "C" fn sawhekonu_insert(dag: HostDag, part: &[u8]) -> HostGraph
+    ensures { λ r. ⌜ r ≡ insertedInto dag (now (part .entry)) ⌝ }
 {
-    let x = insertion::insert(dag, part);
+    if !is_dag(dag) {
+        return HostGraph {
+            answer: refuse(Refusal::Unsound),
+            graph: dag,
+        };
+    }
+    let x = insertion::insert(dag_of(dag), part);
     let answer = x.answer;
     let graph = x.graph;
     HostGraph {
         answer: of_inserted(answer),
-        graph,
+        graph: host_dag(graph),
     }
 }
 
 #[no_mangle]
-pub extern "C" fn sawhekonu_is_sound(dag: CircuitDag) -> bool
-    ensures { λ r. ⌜ r ≡ sound dag ⌝ }
+pub extern "C" fn sawhekonu_is_sound(dag: HostDag) -> bool
+    ensures { λ r. ⌜ r ≡ hostSound dag ⌝ }
 {
-    graph::is_sound(dag)
+    if !is_dag(dag) {
+        return false;
+    }
+    graph::is_sound(dag_of(dag))
 }

@@ -1,16 +1,51 @@
-// The library for C and Rust: load, insertion, soundness, conversions, queries, walk and chain under a C name. Graph, walk and answers cross by
-// value as #[repr(C)] structs, a slice as its pointer and length. The graph is the caller's own struct, so nodes, edges, maps, blocks, register
-// maps and the commuting list are read from its fields; a walk starts with all marks clear.
-// The caller sees to what C cannot say: each pointer has its length's elements, lent slices do not overlap, and a mark is 0 or 1.
+// The library for C and Rust: load, insertion, soundness, conversions, queries, walk and chain under a C name; include/sawhekonu.h is its header.
+// Graph, walk and answers cross by value as #[repr(C)] structs, a slice as its pointer and length, a node number as usize, a mark as a byte. What
+// the caller hands in is tested: bytes that are no marks are refused, as is a number that is no node's. What is left to the caller is what C
+// cannot say: each pointer has its length's elements, and lent slices do not overlap.
 mod answers;
 mod chains;
 mod conversion;
+mod crossing;
 mod inserting;
+mod marks;
 mod querying;
+mod reading;
 mod walking;
 
-use graph::CircuitDag;
-use walk::ParallelBlocks;
+use graph::Commuting;
+use graph::Edges;
+use graph::NodeIndex;
+use graph::Nodes;
+use graph::Registers;
+
+// One end of the circuit; a byte of the block is a mark, 0 or 1.
+#[repr(C)]
+pub struct HostEnd {
+    pub node: [u16; 64],
+    pub all: NodeIndex,
+    pub block: [u8; 512],
+}
+
+// The graph.
+#[repr(C)]
+pub struct HostDag {
+    pub nodes: Nodes,
+    pub edges: Edges,
+    pub first: HostEnd,
+    pub last: HostEnd,
+    pub first_registers: Registers,
+    pub last_registers: Registers,
+    pub commuting: Commuting,
+    pub backs: usize,
+    pub fronts: usize,
+}
+
+// The walk's two sets; a byte is a mark, 0 or 1.
+#[repr(C)]
+pub struct HostWalk {
+    pub current: [u8; 512],
+    pub executed: [u8; 512],
+}
 
 // What a call answers. Refused: document 01's number, and the pair or record that it is about, 65535 if none. Accepted: 0, and what the call
 // found (a node, a count of entries or blocks; 65535 for a step that gives None).
@@ -24,12 +59,20 @@ pub struct HostAnswer {
 #[repr(C)]
 pub struct HostGraph {
     pub answer: HostAnswer,
-    pub graph: CircuitDag,
+    pub graph: HostDag,
 }
 
 // An answer with the walk.
 #[repr(C)]
 pub struct HostStep {
     pub answer: HostAnswer,
-    pub walk: ParallelBlocks,
+    pub walk: HostWalk,
+}
+
+// An answer with the place of a record in the file; 0 and 0 where it is refused.
+#[repr(C)]
+pub struct HostPlace {
+    pub answer: HostAnswer,
+    pub offset: usize,
+    pub length: usize,
 }

@@ -1,59 +1,93 @@
 // The queries.
 ghost use mathlib.Core.Path.{_≡_};
+ghost use Rattle.graph.specs.declared.CircuitDag.{CircuitDag};
 ghost use Rattle.queries.specs.Queries.{executionBlocked, blockingPredecessors, successors, newFrontLayer};
-ghost use Rattle.host.specs.Answers.{lent};
+ghost use Rattle.host.specs.Answers.{lent, onDag};
 use crate::HostAnswer;
+use crate::HostDag;
+use crate::answers::no_node;
 use crate::answers::of_query;
-use graph::CircuitDag;
+use crate::answers::refuse;
+use crate::crossing::dag_of;
+use crate::crossing::is_dag;
+use file::Refusal;
 use graph::NodeIndex;
 
 #[no_mangle]
 pub extern "C" fn sawhekonu_execution_blocked(
-    dag: CircuitDag,
+    dag: HostDag,
     executed: &[u16],
-    node: u16,
+    node: usize,
     buffer: &mut [u16],
 ) -> HostAnswer
     ensures { λ r. ⌜ record { answer = r; buffer = now (buffer .exit) }
-        ≡ lent (executionBlocked dag (now (executed .entry)) node (now (buffer .entry))) ⌝ }
+        ≡ onDag dag (now (buffer .entry)) (λ (g : CircuitDag). lent (executionBlocked g (now (executed .entry)) node (now (buffer .entry)))) ⌝ }
 {
-    let x = queries::execution_blocked(dag, executed, NodeIndex(node), buffer);
+    if !is_dag(dag) {
+        return refuse(Refusal::Unsound);
+    }
+    let g = dag_of(dag);
+    if 65535 < node {
+        return no_node(g);
+    }
+    let x = queries::execution_blocked(g, executed, NodeIndex(node as u16), buffer);
     of_query(x)
 }
 
 #[no_mangle]
 pub extern "C" fn sawhekonu_blocking_predecessors(
-    dag: CircuitDag,
+    dag: HostDag,
     executed: &[u16],
-    node: u16,
+    node: usize,
     buffer: &mut [u16],
 ) -> HostAnswer
     ensures { λ r. ⌜ record { answer = r; buffer = now (buffer .exit) }
-        ≡ lent (blockingPredecessors dag (now (executed .entry)) node (now (buffer .entry))) ⌝ }
+        ≡ onDag dag (now (buffer .entry)) (λ (g : CircuitDag). lent (blockingPredecessors g (now (executed .entry)) node (now (buffer .entry)))) ⌝ }
 {
-    let x = queries::blocking_predecessors(dag, executed, NodeIndex(node), buffer);
+    if !is_dag(dag) {
+        return refuse(Refusal::Unsound);
+    }
+    let g = dag_of(dag);
+    if 65535 < node {
+        return no_node(g);
+    }
+    let x = queries::blocking_predecessors(g, executed, NodeIndex(node as u16), buffer);
     of_query(x)
 }
 
 #[no_mangle]
-pub extern "C" fn sawhekonu_successors(dag: CircuitDag, node: u16, buffer: &mut [u16]) -> HostAnswer
-    ensures { λ r. ⌜ record { answer = r; buffer = now (buffer .exit) } ≡ lent (successors dag node (now (buffer .entry))) ⌝ }
+pub extern "C" fn sawhekonu_successors(dag: HostDag, node: usize, buffer: &mut [u16]) -> HostAnswer
+    ensures { λ r. ⌜ record { answer = r; buffer = now (buffer .exit) } ≡ onDag dag (now (buffer .entry)) (λ (g : CircuitDag). lent (successors g node (now (buffer .entry)))) ⌝ }
 {
-    let x = queries::successors(dag, NodeIndex(node), buffer);
+    if !is_dag(dag) {
+        return refuse(Refusal::Unsound);
+    }
+    let g = dag_of(dag);
+    if 65535 < node {
+        return no_node(g);
+    }
+    let x = queries::successors(g, NodeIndex(node as u16), buffer);
     of_query(x)
 }
 
 #[no_mangle]
 pub extern "C" fn sawhekonu_new_front_layer(
-    dag: CircuitDag,
+    dag: HostDag,
     executed: &[u16],
     layer: &[u16],
-    node: u16,
+    node: usize,
     buffer: &mut [u16],
 ) -> HostAnswer
     ensures { λ r. ⌜ record { answer = r; buffer = now (buffer .exit) }
-        ≡ lent (newFrontLayer dag (now (executed .entry)) (now (layer .entry)) node (now (buffer .entry))) ⌝ }
+        ≡ onDag dag (now (buffer .entry)) (λ (g : CircuitDag). lent (newFrontLayer g (now (executed .entry)) (now (layer .entry)) node (now (buffer .entry)))) ⌝ }
 {
-    let x = queries::new_front_layer(dag, executed, layer, NodeIndex(node), buffer);
+    if !is_dag(dag) {
+        return refuse(Refusal::Unsound);
+    }
+    let g = dag_of(dag);
+    if 65535 < node {
+        return no_node(g);
+    }
+    let x = queries::new_front_layer(g, executed, layer, NodeIndex(node as u16), buffer);
     of_query(x)
 }

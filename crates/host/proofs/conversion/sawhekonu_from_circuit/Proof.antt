@@ -10,8 +10,12 @@ from-circuit-requires c κs = search needs
 of-loaded-requires : tie.Need-of-loaded-requires
 of-loaded-requires c κs = search needs
 
+host-dag-requires : tie.Need-host-dag-requires
+host-dag-requires c κs = search needs
+
 returns : tie.Need-returns
-returns c = rw (c .of-loaded .ensures, ← c .before .before .from-circuit .ensures) refl
+returns c = rw (c .host-dag .ensures, c .before .of-loaded .ensures, ← c .before .before .before .from-circuit .ensures) refl
 
 pub sawhekonu-from-circuit-spec : {M : Type 1} → statement M
-sawhekonu-from-circuit-spec = tie.close (tie.spec from-circuit-requires of-loaded-requires returns)
+sawhekonu-from-circuit-spec =
+    tie.close (tie.spec from-circuit-requires of-loaded-requires host-dag-requires returns)

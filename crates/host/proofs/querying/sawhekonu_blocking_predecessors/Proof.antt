@@ -1,8 +1,31 @@
 -- `host::querying::sawhekonu_blocking_predecessors` meets its contract. Assumes nothing.
-use mathlib.Core.Path.{refl}
+use mathlib.Core.Path.{refl, sym, _∙_}
+use borrow.Author.Tests.{not-true, not-false}
+use Rattle.host.proofs.NodeLaws.{predecessors-beyond}
 use borrow.Author.Needs.{needs}
 use Rattle.host.proofs.querying.sawhekonu_blocking_predecessors.Statement.{statement}
 use Rattle.host.proofs.querying.sawhekonu_blocking_predecessors.Tie as tie
+
+is-dag-requires : tie.Need-is-dag-requires
+is-dag-requires c κs = search needs
+
+refuse-requires : tie.Need-refuse-requires
+refuse-requires c κs = search needs
+
+returns : tie.Need-returns
+returns c = let d = c .before in let m = sym (d .before .is-dag .ensures) ∙ not-true _ (d .if1 .taken) in rw (c .refuse .ensures, m) refl
+
+dag-of-requires : tie.Need-dag-of-requires
+dag-of-requires c κs = search needs
+
+no-node-requires : tie.Need-no-node-requires
+no-node-requires c κs = search needs
+
+returns-2 : tie.Need-returns-2
+returns-2 c = let e = c .before .before .before in let m = sym (e .before .is-dag .ensures) ∙ not-false _ (e .if1 .left) in rw (c .no-node .ensures, m, ← c .before .before .dag-of .ensures) (predecessors-beyond _ _ _ (c .before .if2 .taken) _)
+
+cast-t10 : tie.Need-cast-t10
+cast-t10 c = search needs
 
 blocking-predecessors-requires : tie.Need-blocking-predecessors-requires
 blocking-predecessors-requires c κs = search needs
@@ -13,9 +36,21 @@ of-query-requires c κs = search needs
 same-length : tie.Need-same-length
 same-length c = search needs
 
-returns : tie.Need-returns
-returns c = rw (c .of-query .ensures, ← c .before .before .before .blocking-predecessors .ensures) refl
+returns-3 : tie.Need-returns-3
+returns-3 c = let i = c .before .before .before in let e = i .before .before .before .before in let m = sym (e .before .is-dag .ensures) ∙ not-false _ (e .if1 .left) in rw (c .of-query .ensures, m, ← i .before .before .before .dag-of .ensures, ← i .blocking-predecessors .ensures) refl
 
 pub sawhekonu-blocking-predecessors-spec : {M : Type 1} → statement M
 sawhekonu-blocking-predecessors-spec =
-    tie.close (tie.spec blocking-predecessors-requires of-query-requires same-length returns)
+    tie.close
+    (tie.spec
+    is-dag-requires
+    refuse-requires
+    returns
+    dag-of-requires
+    no-node-requires
+    returns-2
+    cast-t10
+    blocking-predecessors-requires
+    of-query-requires
+    same-length
+    returns-3)

@@ -1,8 +1,33 @@
 -- `host::walking::sawhekonu_next` meets its contract. Assumes nothing.
-use mathlib.Core.Path.{refl}
+use mathlib.Core.Path.{refl, sym, _∙_}
+use borrow.Author.Tests.{not-true, not-false}
 use borrow.Author.Needs.{needs}
 use Rattle.host.proofs.walking.sawhekonu_next.Statement.{statement}
 use Rattle.host.proofs.walking.sawhekonu_next.Tie as tie
+
+is-dag-requires : tie.Need-is-dag-requires
+is-dag-requires c κs = search needs
+
+refuse-requires : tie.Need-refuse-requires
+refuse-requires c κs = search needs
+
+returns : tie.Need-returns
+returns c = let d = c .before in let m = sym (d .before .is-dag .ensures) ∙ not-true _ (d .if1 .taken) in rw (c .refuse .ensures, m) refl
+
+dag-of-requires : tie.Need-dag-of-requires
+dag-of-requires c κs = search needs
+
+is-walk-requires : tie.Need-is-walk-requires
+is-walk-requires c κs = search needs
+
+no-node-requires : tie.Need-no-node-requires
+no-node-requires c κs = search needs
+
+returns-2 : tie.Need-returns-2
+returns-2 c = let w = c .before in let e = w .before .before .before in let m = sym (e .before .is-dag .ensures) ∙ not-false _ (e .if1 .left) in let k = sym (w .before .is-walk .ensures) ∙ not-true _ (w .if2 .taken) in rw (c .no-node .ensures, m, k, ← w .before .before .dag-of .ensures) refl
+
+walk-of-requires : tie.Need-walk-of-requires
+walk-of-requires c κs = search needs
 
 next-requires : tie.Need-next-requires
 next-requires c κs = search needs
@@ -10,11 +35,29 @@ next-requires c κs = search needs
 of-step-requires : tie.Need-of-step-requires
 of-step-requires c κs = search needs
 
+host-walk-requires : tie.Need-host-walk-requires
+host-walk-requires c κs = search needs
+
 same-length : tie.Need-same-length
 same-length c = search needs
 
-returns : tie.Need-returns
-returns c = rw (c .of-step .ensures, ← c .before .before .before .before .next .ensures) refl
+returns-3 : tie.Need-returns-3
+returns-3 c = let i = c .before .before .before .before .before in let w = i .before .before .before in let e = w .before .before .before in let m = sym (e .before .is-dag .ensures) ∙ not-false _ (e .if1 .left) in let k = sym (w .before .is-walk .ensures) ∙ not-false _ (w .if2 .left) in rw (c .host-walk .ensures, c .before .of-step .ensures, m, k, ← i .before .before .walk-of .ensures, ← w .before .before .dag-of .ensures, ← i .next .ensures) refl
 
 pub sawhekonu-next-spec : {M : Type 1} → statement M
-sawhekonu-next-spec = tie.close (tie.spec next-requires of-step-requires same-length returns)
+sawhekonu-next-spec =
+    tie.close
+    (tie.spec
+    is-dag-requires
+    refuse-requires
+    returns
+    dag-of-requires
+    is-walk-requires
+    no-node-requires
+    returns-2
+    walk-of-requires
+    next-requires
+    of-step-requires
+    host-walk-requires
+    same-length
+    returns-3)
