@@ -24,10 +24,11 @@ marksOf l = map (λ b. eqb b 1) l
 unfoldable pub bytesOf : List Bool → List ℕ
 bytesOf l = map (λ b. cond b 1 0) l
 
--- an end as it came, and as it goes
+-- an end as it came
 abbrev pub endOf : HostEnd → End
 endOf e = record { node = e .node; all = e .all; block = marksOf (e .block) }
 
+-- an end as it goes
 abbrev pub hostEnd : End → HostEnd
 hostEnd e = record { node = e .node; all = e .all; block = bytesOf (e .block) }
 
@@ -67,10 +68,11 @@ isDag d = areMarks (d .first .block) && areMarks (d .last .block)
 abbrev pub hostSound : HostDag → Bool
 hostSound d = isDag d && sound (dagOf d)
 
--- the walk of what came, and what goes of a walk
+-- the walk of what came
 unfoldable pub walkOf : HostWalk → ParallelBlocks
 walkOf w = record { current = marksOf (w .current); executed = marksOf (w .executed) }
 
+-- what goes of a walk
 unfoldable pub hostWalk : ParallelBlocks → HostWalk
 hostWalk w = record { current = bytesOf (w .current); executed = bytesOf (w .executed) }
 
