@@ -183,9 +183,9 @@ impl Graph {
         Ok(g)
     }
 
-    /// "To a circuit"
+    /// "To a circuit"; a handed-in graph's nodes of other kinds stand nowhere in it
     pub fn to_circuit(&self) -> Vec<usize> {
-        let mut nodes: Vec<usize> = (0..self.size()).collect();
+        let mut nodes: Vec<usize> = (0..self.size()).filter(|&v| self.dump.nodes[v].0 <= 5).collect();
         nodes.sort_by_key(|&v| (self.dump.nodes[v].0 == 0, self.places[v]));
         nodes
     }

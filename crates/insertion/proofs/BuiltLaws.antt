@@ -34,7 +34,7 @@ use Rattle.links.proofs.LinkLaws.{others-distinct}
 use Rattle.registers.proofs.RegisterLaws.{fits-none}
 use Rattle.insertion.proofs.SafeEnds.{all-same, Side, Joins, named-old, near-side, far-side, joins-by}
 use Rattle.insertion.proofs.SafeEdges.{between, lies, link-rises, EdgesSafe, Meets, meets-below, near-meets, far-meets, edges-more}
-use Rattle.insertion.proofs.SafeNodes.{operates, record-operates, NodesSafe, moreNodes, operatesAt, placeAt, operates-same, operates-here, place-same, place-here, nodes-more, CommutingSafe, commuting-more, RegistersSafe, registers-more}
+use Rattle.insertion.proofs.SafeNodes.{operates, record-kind, record-operates, NodesSafe, moreNodes, operatesAt, placeAt, operates-same, operates-here, place-same, place-here, nodes-more, CommutingSafe, commuting-more, RegistersSafe, registers-more}
 
 -- ---- what every built graph keeps
 
@@ -53,6 +53,7 @@ mirror : (b : Bool) (h : CircuitDag) → Safe b h → Safe (not b) (facing true 
 mirror b h H = record {
   nodes = record {
     kinds = H .nodes .kinds;
+    known = H .nodes .known;
     forms = H .nodes .forms;
     places = H .nodes .places;
     count = H .nodes .count;
@@ -146,11 +147,12 @@ no-registers : RegistersSafe 0 noRegisters
 unfolding noRegisters countFrom allOf
 no-registers = record { fits = fits-none; below = refl }
 
-safe-empty : Safe false empty
+pub safe-empty : Safe false empty
 unfolding empty
 safe-empty = record {
   nodes = record {
     kinds = length-replicate {A = ℕ} 512 0;
+    known = λ v l. absurd (omega arith);
     forms = length-replicate {A = ℕ} 512 0;
     places = length-replicate {A = ℤ} 512 (pos 0);
     count = omega arith;
@@ -256,7 +258,7 @@ module _ (b : Bool) (h : CircuitDag) (s : List ℕ) (H : Safe b h) (A : Accepted
       let below : (c : Bool) (u : ℕ) → Meets c (h .edges) u → u < n = meets-below n op (placeAt (h .nodes)) (h .edges) (H .edges) in
       let registers = registers-more n s (h .«last_registers») (h .«first_registers») (H .near-registers) (H .far-registers) (A .near) (A .far) in
       record {
-        nodes = nodes-more b (h .nodes) (h .backs) (h .fronts) (kind s) (qubitForm s) (label s) (H .nodes) (A .room);
+        nodes = nodes-more b (h .nodes) (h .backs) (h .fronts) (kind s) (qubitForm s) (label s) (H .nodes) (A .room) (record-kind s (A .keeps));
         edges = more-edges;
         near = near-side n op op′ new same here (h .last) (h .first) x (Meets b (h .edges)) (Meets (not b) (h .edges)) (Meets b (h′ .edges)) (Meets (not b) (h′ .edges))
             (H .near) (H .far) joins (below b) (below (not b)) (near-meets n (x .others) (h .edges) in-from in-to b) (far-meets n (x .others) (h .edges) in-from in-to b);

@@ -10,3 +10,4 @@ pub mod InsertLaws
 pub mod BuiltLoads
 pub mod ConversionLaws
 pub mod ReturnLaws
+pub mod BuiltCircuits

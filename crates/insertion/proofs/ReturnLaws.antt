@@ -10,7 +10,7 @@ use lib.IntN.{ℤ, pos}
 use lib.Signed.{ltZ}
 use lib.ListN.{length, getD, set, length-append, length-set, length-replicate, List·getD-append}
 use lib.Seq.{getD-append-seam, getD-append-add, getD-set-same, getD-set-other, ext-getD}
-use borrow.Author.Tests.{lt-ltb, leb-false, not-true as not-flip}
+use borrow.Author.Tests.{lt-ltb, le-leb, leb-false, not-true as not-flip}
 use Rattle.file.specs.Lists.{allOf, keep, countFrom, upTo}
 use Rattle.file.specs.Pairs.{countOf, checkFile, recordAt}
 use Rattle.file.specs.Records.{front, kind, qubitForm, label, recordRule}
@@ -21,8 +21,8 @@ use Rattle.file.specs.declared.FileCheck.the-variants.{Sound, Refused as BadFil
 use Rattle.graph.specs.declared.CircuitDag.{CircuitDag}
 use Rattle.graph.specs.declared.Nodes.{Nodes}
 use Rattle.graph.specs.Dag.{empty, size, nodeAt, placeOf, node}
-use Rattle.queries.specs.Conversion.{placeIn, sortByPlace, circuitOf}
-use Rattle.file.proofs.BoolLaws.{bool-cases, clash-bool, not-false, split-lt}
+use Rattle.queries.specs.Conversion.{oneToFive, definitionsFirst, placeIn, sortByPlace, circuitOf}
+use Rattle.file.proofs.BoolLaws.{bool-cases, clash-bool, not-true, not-false, split-lt}
 use Rattle.graph.proofs.ListLaws.{all-here, all-fails, all-at, length-countFrom, length-upTo, upTo-at}
 use Rattle.graph.proofs.SoundnessLaws.{all-join}
 use Rattle.queries.proofs.BufferLaws.{keep-append}
@@ -35,8 +35,9 @@ use Rattle.links.specs.Links.{nearAll}
 use Rattle.insertion.specs.Insertion.{grown}
 use Rattle.insertion.specs.Limits.{insertAs, edgesPass, registersPass}
 use Rattle.insertion.specs.Load.{notLoaded, insertRecords}
-use Rattle.queries.proofs.CircuitLaws.{keep-split, place-here}
+use Rattle.queries.proofs.CircuitLaws.{kind-other, first-whole, place-here}
 use Rattle.insertion.specs.Conversion.{insertionOrder, broken, convert, convertChecked, fromCircuit}
+use Rattle.insertion.proofs.SafeNodes.{record-kind}
 use Rattle.insertion.specs.Circuits.{recordOfNode, CircuitAgain, ReturnsCircuit}
 
 -- ---- one insertion
@@ -257,15 +258,15 @@ unfolding countFrom
 count-split zero m j = let z : j + 0 ≡ j = omega arith in let y : 0 + m ≡ m = omega arith in rw (z, y) refl
 count-split (suc d) m j = let z : suc d + m ≡ suc (d + m) = omega arith in let y : j + 1 + d ≡ j + suc d = omega arith in rw (z, ← y) (ap (λ (l : List ℕ). j ∷ l) (count-split d m (j + 1)))
 
--- numbers whose first d do not pass and whose others pass stay in their order
-parts-same : (q : ℕ → Bool) (d m : ℕ) → ((v : ℕ) → v < d → q v ≡ false) → ((v : ℕ) → d ≤ v → v < d + m → q v ≡ true) → keep (λ v. not (q v)) (upTo (d + m)) ++ keep q (upTo (d + m)) ≡ upTo (d + m)
-parts-same q d m f t =
+-- numbers whose first d pass one test and whose others pass the other stay in their order
+parts-same : (p q : ℕ → Bool) (d m : ℕ) → ((v : ℕ) → v < d → (p v ≡ true) × (q v ≡ false)) → ((v : ℕ) → d ≤ v → v < d + m → (p v ≡ false) × (q v ≡ true)) → keep p (upTo (d + m)) ++ keep q (upTo (d + m)) ≡ upTo (d + m)
+parts-same p q d m f t =
     let y : 0 + d ≡ d = omega arith in
     let u : upTo (d + m) ≡ upTo d ++ countFrom m d = count-split d m 0 ∙ ap (λ (k : ℕ). upTo d ++ countFrom m k) y in
-    let a : keep (λ v. not (q v)) (upTo (d + m)) ≡ upTo d = ap (keep (λ v. not (q v))) u ∙ keep-append (λ v. not (q v)) (upTo d) (countFrom m d)
-    ∙ (λ i. keep-range (λ v. not (q v)) d 0 (λ v x z. ap not (f v (omega arith))) i ++ drop-range (λ v. not (q v)) m d (λ v x z. ap not (t v x z)) i) ∙ append-nil (upTo d) in
+    let a : keep p (upTo (d + m)) ≡ upTo d = ap (keep p) u ∙ keep-append p (upTo d) (countFrom m d)
+    ∙ (λ i. keep-range p d 0 (λ v x z. f v (omega arith) .0) i ++ drop-range p m d (λ v x z. t v x z .0) i) ∙ append-nil (upTo d) in
     let b : keep q (upTo (d + m)) ≡ countFrom m d = ap (keep q) u ∙ keep-append q (upTo d) (countFrom m d)
-    ∙ (λ i. drop-range q d 0 (λ v x z. f v (omega arith)) i ++ keep-range q m d (λ v x z. t v x z) i) in
+    ∙ (λ i. drop-range q d 0 (λ v x z. f v (omega arith) .1) i ++ keep-range q m d (λ v x z. t v x z .1) i) in
     (λ i. a i ++ b i) ∙ sym u
 
 -- ---- the theorem
@@ -280,56 +281,70 @@ module _ (s : List ℕ) (h : fromCircuit s .answer ≡ Done) where
   abbrev U : List ℕ
   U = upTo (countOf s)
 
+  abbrev defining : ℕ → Bool
+  defining i = oneToFive (kind (recordAt s i))
+
   abbrev D : List ℕ
-  D = keep (λ i. not (ordinary i)) U
+  D = keep defining U
 
   abbrev O : List ℕ
   O = keep ordinary U
 
-  all-back : allOf (back s) U ≡ true
-  all-back = none-kept (broken s) (back s) (λ i e. either (not (recordRule (recordAt s i))) (front (recordAt s i)) e) U (accepted-told s h .whole)
+  -- no record is broken
+  whole : (i : ℕ) → broken s i ≡ false → (recordRule (recordAt s i) ≡ true) × (back s i ≡ true)
+  whole i e = both (recordRule (recordAt s i)) (front (recordAt s i)) e
     where
-      either : (a b : Bool) → (a || b) ≡ false → not b ≡ true
-      either true b e = absurd (clash-bool refl e)
-      either false true e = absurd (clash-bool refl e)
-      either false false e = refl
+      both : (a b : Bool) → (not a || b) ≡ false → (a ≡ true) × (not b ≡ true)
+      both false b e = absurd (clash-bool refl e)
+      both true true e = absurd (clash-bool refl e)
+      both true false e = (refl, refl)
+
+  all-back : allOf (back s) U ≡ true
+  all-back = none-kept (broken s) (back s) (λ i e. whole i e .1) U (accepted-told s h .whole)
+
+  all-known : allOf (λ i. leb (kind (recordAt s i)) 5) U ≡ true
+  all-known = none-kept (broken s) (λ i. leb (kind (recordAt s i)) 5) (λ i e. le-leb (kind (recordAt s i)) 5 (record-kind (recordAt s i) (whole i e .0))) U (accepted-told s h .whole)
 
   filled : Filled s (insertionOrder s) G
   filled =
       let A = accepted-told s h in
-      let b : allOf (back s) (insertionOrder s) ≡ true = all-join (back s) D O (all-kept (λ i. not (ordinary i)) (back s) U all-back) (all-kept ordinary (back s) U all-back) in
+      let b : allOf (back s) (insertionOrder s) ≡ true = all-join (back s) D O (all-kept defining (back s) U all-back) (all-kept ordinary (back s) U all-back) in
       subst (λ (y : Loaded). Filled s (insertionOrder s) (y .graph)) (sym (A .same)) (inserts s (insertionOrder s) [] empty (filled-none s) b (sym (ap (λ (y : Loaded). y .answer) (A .same)) ∙ h))
 
-  many : length D + length O ≡ countOf s
-  many = sym (length-append D O) ∙ keep-split ordinary U ∙ length-countFrom (countOf s) 0
-
   order-length : length (insertionOrder s) ≡ countOf s
-  order-length = length-append D O ∙ many
+  order-length = first-whole (λ i. kind (recordAt s i)) U all-known ∙ length-countFrom (countOf s) 0
+
+  many : length D + length O ≡ countOf s
+  many = sym (length-append D O) ∙ order-length
 
   sized : size G ≡ countOf s
   sized = filled .nodes .count ∙ order-length
 
-  abbrev Q : ℕ → Bool
-  Q v = eqb (nodeAt G v .kind) 0
+  abbrev kindOf : ℕ → ℕ
+  kindOf v = nodeAt G v .kind
 
-  kind-of : (v : ℕ) → v < countOf s → Q v ≡ ordinary (getD (insertionOrder s) v 0)
-  kind-of v k = ap (λ (x : ℕ). eqb x 0) (filled .nodes .kind-at v (omega (arith, order-length)))
+  kind-of : (v : ℕ) → v < countOf s → kindOf v ≡ kind (recordAt s (getD (insertionOrder s) v 0))
+  kind-of v k = filled .nodes .kind-at v (omega (arith, order-length))
 
-  first-defines : (v : ℕ) → v < length D → Q v ≡ false
-  first-defines v k = kind-of v (omega (arith, many)) ∙ ap ordinary (List·getD-append D O 0 v k)
-      ∙ not-flip (ordinary (getD D v 0)) (all-at (λ i. not (ordinary i)) D 0 (kept-pass (λ i. not (ordinary i)) U) v k)
+  first-defines : (v : ℕ) → v < length D → (oneToFive (kindOf v) ≡ true) × (eqb (kindOf v) 0 ≡ false)
+  first-defines v k =
+      let t : oneToFive (kindOf v) ≡ true = ap oneToFive (kind-of v (omega (arith, many))) ∙ ap defining (List·getD-append D O 0 v k) ∙ all-at defining D 0 (kept-pass defining U) v k in
+      (t, not-true (λ e. clash-bool t (kind-other (kindOf v) e)))
 
-  rest-ordinary : (v : ℕ) → length D ≤ v → v < length D + length O → Q v ≡ true
+  rest-ordinary : (v : ℕ) → length D ≤ v → v < length D + length O → (oneToFive (kindOf v) ≡ false) × (eqb (kindOf v) 0 ≡ true)
   rest-ordinary v a b =
       let z : v ≡ length D + (v - length D) = omega arith in
-      kind-of v (omega (arith, many)) ∙ ap ordinary (ap (λ (k : ℕ). getD (D ++ O) k 0) z ∙ getD-append-add D O (v - length D) 0) ∙ all-at ordinary O 0 (kept-pass ordinary U) (v - length D) (omega arith)
+      let t : eqb (kindOf v) 0 ≡ true = ap (λ (x : ℕ). eqb x 0) (kind-of v (omega (arith, many)))
+      ∙ ap ordinary (ap (λ (k : ℕ). getD (D ++ O) k 0) z ∙ getD-append-add D O (v - length D) 0) ∙ all-at ordinary O 0 (kept-pass ordinary U) (v - length D) (omega arith) in
+      (kind-other (kindOf v) t, t)
 
   circuit-same : circuitOf G ≡ U
   unfolding circuitOf
   circuit-same =
       let at : (v : ℕ) → v < countOf s → placeOf G v ≡ pos v = λ v k. filled .nodes .place-at v (omega (arith, order-length)) in
       let o : sortByPlace G (upTo (size G)) ≡ U = ap (λ (n : ℕ). sortByPlace G (upTo n)) sized ∙ sort-same G (countOf s) at (countOf s) 0 (omega arith) in
-      ap (λ (l : List ℕ). keep (λ v. not (Q v)) l ++ keep Q l) (o ∙ ap upTo (sym many)) ∙ parts-same Q (length D) (length O) first-defines rest-ordinary ∙ ap upTo many
+      ap (definitionsFirst kindOf) (o ∙ ap upTo (sym many))
+      ∙ parts-same (λ v. oneToFive (kindOf v)) (λ v. eqb (kindOf v) 0) (length D) (length O) first-defines rest-ordinary ∙ ap upTo many
 
   again : CircuitAgain s
   again = record {

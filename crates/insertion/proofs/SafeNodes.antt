@@ -48,6 +48,10 @@ kind-operates (suc (suc (suc (suc zero)))) l d = absurd (clash-bool refl d)
 kind-operates (suc (suc (suc (suc (suc zero))))) l d = refl
 kind-operates (suc (suc (suc (suc (suc (suc k)))))) l d = absurd (omega arith)
 
+-- a record's kind
+pub record-kind : (s : List ℕ) → recordRule s ≡ true → kind s ≤ 5
+record-kind s keeps = leb-true (kind s) 5 (and-l (leb (kind s) 5) (definitionRule (kind s) (qubitForm s) (registerForm s)) (rule s keeps .kinds))
+
 -- a record that involves qubits becomes a qubit operation: kinds 1 to 4 involve none
 pub record-operates : (s : List ℕ) → recordRule s ≡ true → eqb (formOf (qubitsOf s)) 0 ≡ false → operates (kind s) (qubitForm s) ≡ true
 unfolding definitionRule qubitRule
@@ -55,11 +59,10 @@ record-operates s keeps h =
     let r = rule s keeps in
     let some : qubitForm s ≡ 0 → ⊥ = λ (e : qubitForm s ≡ 0). eqb-false (formOf (qubitsOf s)) 0 h (form-kept s keeps ∙ e) in
     let low : qubitForm s ≤ 2 = leb-true (qubitForm s) 2 (and-l (leb (qubitForm s) 2) (eqb (qubitForm s) 2 || eqb (mask s) 0) (r .qubits)) in
-    let few : kind s ≤ 5 = leb-true (kind s) 5 (and-l (leb (kind s) 5) (definitionRule (kind s) (qubitForm s) (registerForm s)) (r .kinds)) in
     let rest : definitionRule (kind s) (qubitForm s) (registerForm s) ≡ true = and-r (leb (kind s) 5) (definitionRule (kind s) (qubitForm s) (registerForm s)) (r .kinds) in
     ⊎-elim
     (λ (d : defines (kind s) ≡ true). absurd (some (eqb-true (qubitForm s) 0 (and-r (eqb (registerForm s) 4) (eqb (qubitForm s) 0) (rw d at rest)))))
-    (λ (d : defines (kind s) ≡ false). form-operates (kind s) (qubitForm s) (kind-operates (kind s) few d) low some)
+    (λ (d : defines (kind s) ≡ false). form-operates (kind s) (qubitForm s) (kind-operates (kind s) (record-kind s keeps) d) low some)
     (bool-cases (defines (kind s)))
 
 -- ---- nodes
@@ -67,6 +70,7 @@ record-operates s keeps h =
 -- the nodes seen from one end (true: the front), with the counts of insertions there and at the other
 pub record NodesSafe (b : Bool) (x : Nodes) (near far : ℕ) : Type 0 where
   pub kinds : length (x .kind) ≡ 512
+  pub known : (v : ℕ) → v < x .count → getD (x .kind) v 0 ≤ 5
   pub forms : length (x .form) ≡ 512
   pub places : length (x .place) ≡ 512
   pub count : x .count ≤ 512
@@ -110,9 +114,13 @@ module _ (b : Bool) (x : Nodes) (near far k f l : ℕ) (N : NodesSafe b x near f
   pub place-here : placeAt x′ (x .count) ≡ placeAfter b near
   place-here = getD-set-same (x .place) (x .count) (placeAfter b near) (pos 0) (omega (arith, N .places))
 
-  pub nodes-more : NodesSafe b x′ (near + 1) far
-  nodes-more = record {
+  pub nodes-more : k ≤ 5 → NodesSafe b x′ (near + 1) far
+  nodes-more few = record {
     kinds = length-set (x .kind) (x .count) k ∙ N .kinds;
+    known = λ v h. ⊎-elim
+        (λ (e : v ≡ x .count). rw (e, getD-set-same (x .kind) (x .count) k 0 (omega (arith, N .kinds))) few)
+        (λ (h : v < x .count). rw (getD-set-other (x .kind) (x .count) v k 0 (omega arith)) (N .known v h))
+        (split-lt v (x .count) h);
     forms = length-set (x .form) (x .count) f ∙ N .forms;
     places = length-set (x .place) (x .count) (placeAfter b near) ∙ N .places;
     count = omega arith;

@@ -1,4 +1,4 @@
--- From a circuit file that is accepted, and then back to a circuit: the statement. Assumes nothing.
+-- The circuits of built graphs, and from a circuit file that is accepted back to a circuit: the statements. Assumes nothing.
 use mathlib.Core.Path.{_≡_}
 use mathlib.Core.List.{List, map}
 use Prim.Native.Nat.{ℕ, _<_}
@@ -7,10 +7,25 @@ use lib.ListN.{getD}
 use Rattle.file.specs.Lists.{upTo}
 use Rattle.file.specs.Pairs.{countOf, recordAt}
 use Rattle.file.specs.Records.{kind, qubitForm, label}
+use Rattle.graph.specs.declared.CircuitDag.{CircuitDag}
 use Rattle.graph.specs.Dag.{Node, nodeAt}
 use Rattle.queries.specs.Conversion.{circuitOf}
+use Rattle.queries.specs.Circuits.{CircuitWhole, EdgesRespected}
 use Rattle.file.specs.declared.Outcome.the-variants.{Done}
+use Rattle.insertion.specs.Load.{load}
+use Rattle.insertion.specs.Calls.{final}
 use Rattle.insertion.specs.Conversion.{insertionOrder, fromCircuit}
+
+-- each node once, and in the order of every edge within kind 0 and within kinds 1 to 5
+pub record WholeInOrder (g : CircuitDag) : Type 0 where
+  pub whole : CircuitWhole g
+  pub in-order : EdgesRespected g
+
+-- the circuit of every graph that is built, with no condition on the bytes: by a list of insertions, a load or a conversion
+pub record CircuitsBuilt : Type 0 where
+  pub inserted : (l : List (List ℕ)) → WholeInOrder (final l)
+  pub loaded : (s : List ℕ) → WholeInOrder (load s .graph)
+  pub converted : (s : List ℕ) → WholeInOrder (fromCircuit s .graph)
 
 -- the record whose node has the number v
 abbrev pub recordOfNode : List ℕ → ℕ → ℕ

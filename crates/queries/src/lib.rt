@@ -11,6 +11,12 @@ pub use queries::execution_blocked;
 pub use queries::new_front_layer;
 pub use queries::successors;
 
+// Node or record numbers in an order: the first count of the list.
+pub struct Order {
+    pub count: usize,
+    pub list: [u16; 512],
+}
+
 // What a query answers: how many entries it wrote to the lent buffer.
 pub enum Query {
     Entries(usize),
