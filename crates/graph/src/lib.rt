@@ -7,6 +7,7 @@ pub mod soundness;
 pub use sets::has_member;
 pub use sets::members_below;
 pub use sets::no_marks;
+pub use soundness::is_before;
 pub use soundness::is_register_map;
 pub use soundness::is_sound;
 ghost use mathlib.Core.Path.{_≡_};

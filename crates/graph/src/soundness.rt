@@ -129,8 +129,8 @@ fn places_fit(place: &[i16; 512], n: usize, backs: usize, fronts: usize) -> bool
     true
 }
 
-// The places compared signed.
-fn is_before(a: i16, b: i16) -> bool
+// Two places compared signed.
+pub fn is_before(a: i16, b: i16) -> bool
     ensures { λ r. ⌜ r ≡ ltZ a b ⌝ }
 {
     a < b

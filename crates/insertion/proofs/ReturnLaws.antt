@@ -35,7 +35,8 @@ use Rattle.links.specs.Links.{nearAll}
 use Rattle.insertion.specs.Insertion.{grown}
 use Rattle.insertion.specs.Limits.{insertAs, edgesPass, registersPass}
 use Rattle.insertion.specs.Load.{notLoaded, insertRecords}
-use Rattle.queries.proofs.CircuitLaws.{kind-other, first-whole, place-here}
+use Rattle.queries.proofs.PlaceOrder.{place-here}
+use Rattle.queries.proofs.CircuitLaws.{kind-other, first-whole}
 use Rattle.insertion.specs.Conversion.{insertionOrder, broken, convert, convertChecked, fromCircuit}
 use Rattle.insertion.proofs.SafeNodes.{record-kind}
 use Rattle.insertion.specs.Circuits.{recordOfNode, CircuitAgain, ReturnsCircuit}
@@ -234,14 +235,14 @@ accepted-told s h = checked (checkFile s) refl h
 -- ---- the circuit of nodes whose places are their numbers
 
 module _ (g : CircuitDag) (n : ℕ) (at : (v : ℕ) → v < n → placeOf g v ≡ pos v) where
-  sort-same : (m j : ℕ) → j + m ≤ n → sortByPlace g (countFrom m j) ≡ countFrom m j
+  sort-same : (m j : ℕ) → j + m ≤ n → sortByPlace (placeOf g) (countFrom m j) ≡ countFrom m j
   unfolding sortByPlace countFrom placeIn
   sort-same zero j h = refl
-  sort-same (suc m) j h = ap (placeIn g j) (sort-same m (j + 1) (omega arith)) ∙ put m h
+  sort-same (suc m) j h = ap (placeIn (placeOf g) j) (sort-same m (j + 1) (omega arith)) ∙ put m h
     where
-      put : (m : ℕ) → j + suc m ≤ n → placeIn g j (countFrom m (j + 1)) ≡ j ∷ countFrom m (j + 1)
+      put : (m : ℕ) → j + suc m ≤ n → placeIn (placeOf g) j (countFrom m (j + 1)) ≡ j ∷ countFrom m (j + 1)
       put zero h = refl
-      put (suc m) h = place-here g j (j + 1) (countFrom m (j + 1 + 1)) ((λ t. ltZ (at j (omega arith) t) (at (j + 1) (omega arith) t)) ∙ lt-ltb j (j + 1) (omega arith))
+      put (suc m) h = place-here (placeOf g) j (j + 1) (countFrom m (j + 1 + 1)) ((λ t. ltZ (at j (omega arith) t) (at (j + 1) (omega arith) t)) ∙ lt-ltb j (j + 1) (omega arith))
 
 keep-range : (p : ℕ → Bool) (n j : ℕ) → ((v : ℕ) → j ≤ v → v < j + n → p v ≡ true) → keep p (countFrom n j) ≡ countFrom n j
 unfolding keep countFrom
@@ -342,7 +343,7 @@ module _ (s : List ℕ) (h : fromCircuit s .answer ≡ Done) where
   unfolding circuitOf
   circuit-same =
       let at : (v : ℕ) → v < countOf s → placeOf G v ≡ pos v = λ v k. filled .nodes .place-at v (omega (arith, order-length)) in
-      let o : sortByPlace G (upTo (size G)) ≡ U = ap (λ (n : ℕ). sortByPlace G (upTo n)) sized ∙ sort-same G (countOf s) at (countOf s) 0 (omega arith) in
+      let o : sortByPlace (placeOf G) (upTo (size G)) ≡ U = ap (λ (n : ℕ). sortByPlace (placeOf G) (upTo n)) sized ∙ sort-same G (countOf s) at (countOf s) 0 (omega arith) in
       ap (definitionsFirst kindOf) (o ∙ ap upTo (sym many))
       ∙ parts-same (λ v. oneToFive (kindOf v)) (λ v. eqb (kindOf v) 0) (length D) (length O) first-defines rest-ordinary ∙ ap upTo many
 

@@ -36,7 +36,7 @@ countFrom-suc (suc n) k =
     let z : (k + 1) + n ≡ k + suc n = omega arith in
     ap (λ (l : List ℕ). k ∷ l) (countFrom-suc n (k + 1) ∙ ap (λ (x : ℕ). countFrom n (k + 1) ++ (x ∷ [])) z)
 
-upTo-suc : (n : ℕ) → upTo (n + 1) ≡ upTo n ++ (n ∷ [])
+pub upTo-suc : (n : ℕ) → upTo (n + 1) ≡ upTo n ++ (n ∷ [])
 upTo-suc n = let z : 0 + n ≡ n = omega arith in rw (add-one n) (countFrom-suc n 0 ∙ ap (λ (x : ℕ). upTo n ++ (x ∷ [])) z)
 
 module _ (p : ℕ → Bool) where
