@@ -7,15 +7,15 @@ use native.Mathlib.Omega.{arith}
 use native.Mathlib.Numerals.{add-one}
 use native.Mathlib.Decide.{ℕ-discrete}
 use lib.Dec.{ltb, eqb}
-use lib.ListN.{length, take, drop, getD, length-take, length-drop, drop-of-length-le, List·getD-eq-default}
-use lib.Seq.{take-all}
+use lib.ListN.{length, take, drop, getD, length-take, length-drop, List·getD-eq-default}
 use denote.Ref.{RefT, ptr, now}
 use borrow.Author.Tests.{eq-eqb, ne-eqb, eqb-true, ltb-true, ltb-false, lt-ltb, le-ltb}
-use Rattle.file.specs.Pairs.{numberAt, offsetOf, lengthOf, countOf, checkPairs, checkFile, placeFrom, locateRecord, Part, partOf, recordAt}
+use Rattle.file.specs.Pairs.{numberAt, offsetOf, lengthOf, countOf, checkPairs, checkFile, placeFrom, locateRecord, pairPlace, Part, partOf, recordAt}
 use Rattle.file.specs.declared.Refusal.{Refusal}
 use Rattle.file.specs.declared.Refusal.the-variants.{FileTooShort, TooManyRecords, BadPair, Absent}
 use Rattle.file.specs.declared.FileCheck.{FileCheck}
 use Rattle.file.specs.declared.FileCheck.the-variants.{Sound, Refused}
+use Rattle.file.specs.declared.Place.{Place}
 use Rattle.file.specs.declared.Place.the-variants.{At, Refused as NotThere}
 
 -- ---- Which byte lists are accepted
@@ -110,9 +110,26 @@ inside s i e l =
     let z : i + 1 + (countOf s - (i + 1)) ≡ countOf s = omega arith in
     omega (arith, a .starts i l, a .end, due-next s i, rw z at r)
 
--- .. and has the length that its pair gives
+-- on a file that passed the check a record's own pair says where it stands
+pub pair-located : (s : List ℕ) (i : ℕ) → checkFile s ≡ Sound → pairPlace s i ≡ locateRecord s i
+unfolding pairPlace
+pair-located s i e =
+    let a = accepted s e in
+    rw (e, le-ltb _ _ (a .two), le-ltb _ _ (a .many), le-ltb _ _ (a .pairs)) (go (ltb i (countOf s)) refl)
+  where
+    go : (b : Bool) → ltb i (countOf s) ≡ b
+        → cond b (cond (ltb (length s) (offsetOf s i + lengthOf s i)) (NotThere (BadPair i)) (At (offsetOf s i) (lengthOf s i))) (NotThere Absent)
+        ≡ cond b (At (offsetOf s i) (lengthOf s i)) (NotThere Absent)
+    go true h = rw (le-ltb _ _ (inside s i e (ltb-true _ _ h))) refl
+    go false h = refl
+
+-- .. and record i is there
+pub pair-there : (s : List ℕ) (i : ℕ) → checkFile s ≡ Sound → i < countOf s → pairPlace s i ≡ At (offsetOf s i) (lengthOf s i)
+pair-there s i e l = pair-located s i e ∙ rw (e, lt-ltb _ _ l) refl
+
+-- .. with the length that its pair gives
 pub part-length : (s : List ℕ) (i : ℕ) → checkFile s ≡ Sound → i < countOf s → length (recordAt s i) ≡ lengthOf s i
-part-length s i e l = simp (length-take, length-drop) (omega (arith, inside s i e l))
+part-length s i e l = rw (pair-there s i e l) (simp (length-take, length-drop) (omega (arith, inside s i e l)))
 
 -- a record that is located lies within the file
 pub located : (s : List ℕ) (i o l : ℕ) → locateRecord s i ≡ At o l → o + l ≤ length s
@@ -130,8 +147,8 @@ located s i o l = go (checkFile s) refl
         omega (arith, t .1 .0, t .1 .1, g)
 
 -- record i of an accepted file is "offset to offset plus length" of it
-pub located-at : (s : List ℕ) (i : ℕ) → checkFile s ≡ Sound → i < countOf s → partOf (locateRecord s i) s ≡ take (lengthOf s i) (drop (offsetOf s i) s)
-located-at s i e l = rw (e, lt-ltb _ _ l) refl
+pub located-at : (s : List ℕ) (i : ℕ) → checkFile s ≡ Sound → i < countOf s → recordAt s i ≡ take (lengthOf s i) (drop (offsetOf s i) s)
+located-at s i e l = rw (pair-there s i e l) refl
 
 -- ---- Fields past the end
 
@@ -210,39 +227,59 @@ module _ (s : List ℕ) (n : ℕ) (two : 2 ≤ length s) (h : Field s 0 n) where
     same = let z : n - 0 ≡ n = omega arith in rw (z, le-ltb _ _ two, ← h .0, le-ltb _ _ l, le-ltb _ _ g) refl;
   }
 
--- ---- The answers of `locate_record` and `record_at`
+-- ---- The answers of `locate_pair`, `record_at` and `part_of`
 
-module _ (s : List ℕ) (i n : ℕ) (e : checkFile s ≡ Sound) (h : Field s 0 n) where
-  pub reach : i < n → 4 + 4 * i + 1 < length s
-  reach l = omega (arith, accepted s e .pairs, h .0)
+pub no-header : (s : List ℕ) (i : ℕ) → length s < 2 → NotThere FileTooShort ≡ pairPlace s i
+unfolding pairPlace
+no-header s i l = rw (lt-ltb _ _ l) refl
 
-  pub at-place : (o l : ℕ) → i < n → Field s (2 + 4 * i) o → Field s (4 + 4 * i) l → At o l ≡ locateRecord s i
-  at-place o l t f g = rw (e, ← h .0, lt-ltb _ _ t, f .0, g .0) refl
+module _ (s : List ℕ) (i n : ℕ) (two : 2 ≤ length s) (h : Field s 0 n) where
+  pub pair-over : 512 < n → NotThere TooManyRecords ≡ pairPlace s i
+  unfolding pairPlace
+  pair-over g = rw (le-ltb _ _ two, ← h .0, lt-ltb _ _ g) refl
 
-  pub not-there : n ≤ i → NotThere Absent ≡ locateRecord s i
-  not-there t = rw (e, ← h .0, le-ltb _ _ t) refl
+  module _ (many : n ≤ 512) where
+    pub pair-short : length s < 2 + 4 * n → NotThere FileTooShort ≡ pairPlace s i
+    unfolding pairPlace
+    pair-short g = rw (le-ltb _ _ two, ← h .0, le-ltb _ _ many, lt-ltb _ _ g) refl
 
-module _ (f r : RefT (List ℕ)) (i : ℕ) (b : ptr r .0 ≡ ptr f .0) where
-  pub is-part : (o l : ℕ) → locateRecord (now f) i ≡ At o l → now r ≡ take (o + l - o) (drop o (now f)) → ptr r .1 ≡ o + ptr f .1 → Part f r i
+    module _ (fits : 2 + 4 * n ≤ length s) where
+      pub pair-absent : n ≤ i → NotThere Absent ≡ pairPlace s i
+      unfolding pairPlace
+      pair-absent g = rw (le-ltb _ _ two, ← h .0, le-ltb _ _ many, le-ltb _ _ fits, le-ltb _ _ g) refl
+
+      module _ (there : i < n) (o l : ℕ) (f : Field s (2 + 4 * i) o) (g : Field s (4 + 4 * i) l) where
+        pub pair-out : length s < o + l → NotThere (BadPair i) ≡ pairPlace s i
+        unfolding pairPlace
+        pair-out t = rw (le-ltb _ _ two, ← h .0, le-ltb _ _ many, le-ltb _ _ fits, lt-ltb _ _ there, ← f .0, ← g .0, lt-ltb _ _ t) refl
+
+        pub pair-at : o + l ≤ length s → At o l ≡ pairPlace s i
+        unfolding pairPlace
+        pair-at t = rw (le-ltb _ _ two, ← h .0, le-ltb _ _ many, le-ltb _ _ fits, lt-ltb _ _ there, ← f .0, ← g .0, le-ltb _ _ t) refl
+
+-- a record that its pair locates lies within the file
+pub pair-inside : (s : List ℕ) (i o l : ℕ) → pairPlace s i ≡ At o l → o + l ≤ length s
+unfolding pairPlace
+pair-inside s i o l = go (ltb (length s) 2) (ltb 512 (countOf s)) (ltb (length s) (2 + 4 * countOf s)) (ltb i (countOf s)) (ltb (length s) (offsetOf s i + lengthOf s i)) refl
+  where
+    go : (a b c d e : Bool) → ltb (length s) (offsetOf s i + lengthOf s i) ≡ e
+        → cond a (NotThere FileTooShort) (cond b (NotThere TooManyRecords) (cond c (NotThere FileTooShort)
+        (cond d (cond e (NotThere (BadPair i)) (At (offsetOf s i) (lengthOf s i))) (NotThere Absent)))) ≡ At o l → o + l ≤ length s
+    go true b c d e h p = let z : _≡_ {A = ℕ} 0 1 = cc in absurd (omega arith)
+    go false true c d e h p = let z : _≡_ {A = ℕ} 0 1 = cc in absurd (omega arith)
+    go false false true d e h p = let z : _≡_ {A = ℕ} 0 1 = cc in absurd (omega arith)
+    go false false false false e h p = let z : _≡_ {A = ℕ} 0 1 = cc in absurd (omega arith)
+    go false false false true true h p = let z : _≡_ {A = ℕ} 0 1 = cc in absurd (omega arith)
+    go false false false true false h p =
+        let x : offsetOf s i ≡ o = cc in
+        let y : lengthOf s i ≡ l = cc in
+        omega (arith, x, y, ltb-false (length s) (offsetOf s i + lengthOf s i) h)
+
+module _ (f r : RefT (List ℕ)) (x : Place) (b : ptr r .0 ≡ ptr f .0) where
+  pub is-part : (o l : ℕ) → x ≡ At o l → now r ≡ take (o + l - o) (drop o (now f)) → ptr r .1 ≡ o + ptr f .1 → Part f r x
   is-part o l e p q =
       let z : o + l - o ≡ l = omega arith in
       record { bytes = rw (e, p, z) refl; block = b; start = rw e q }
 
-  pub no-part : (x : Refusal) → locateRecord (now f) i ≡ NotThere x → now r ≡ [] → ptr r .1 ≡ 0 + ptr f .1 → Part f r i
-  no-part x e h q = record { bytes = rw e h; block = b; start = rw e q }
-
--- ---- The answers of `part_of`
-
-module _ (s : List ℕ) (i o m : ℕ) (so : o ≡ offsetOf s i) (sm : m ≡ lengthOf s i) where
-  pub part-past : length s ≤ o → take (length s - length s) (drop (length s) s) ≡ recordAt s i
-  part-past h =
-      rw (← so, drop-of-length-le s {i = length s} (omega arith), drop-of-length-le s {i = o} h)
-      (take-all (length s - length s) [] (omega arith) ∙ sym (take-all (lengthOf s i) [] (omega arith)))
-
-  pub part-cut : length s - o < m → take (length s - o) (drop o s) ≡ recordAt s i
-  part-cut h =
-      let l : length (drop o s) ≡ length s - o = length-drop o s in
-      rw (← so, ← sm) (take-all (length s - o) (drop o s) (omega (arith, l)) ∙ sym (take-all m (drop o s) (omega (arith, l, h))))
-
-  pub part-whole : take (o + m - o) (drop o s) ≡ recordAt s i
-  part-whole = let z : o + m - o ≡ m = omega arith in rw (z, ← so, ← sm) refl
+  pub no-part : (c : Refusal) → x ≡ NotThere c → now r ≡ [] → ptr r .1 ≡ 0 + ptr f .1 → Part f r x
+  no-part c e h q = record { bytes = rw e h; block = b; start = rw e q }

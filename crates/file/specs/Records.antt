@@ -4,8 +4,10 @@ use mathlib.Core.List.{List}
 use Prim.Native.Nat.{ℕ, zero, suc, _+_, _*_, _-_}
 use lib.Dec.{ltb, leb, eqb}
 use lib.ListN.{length, getD}
-use Rattle.file.specs.Pairs.{numberAt}
+use Rattle.file.specs.Pairs.{numberAt, pairPlace, recordAt}
 use Rattle.file.specs.declared.Refusal.the-variants.{BadRecord}
+use Rattle.file.specs.declared.Place.{Place}
+use Rattle.file.specs.declared.Place.the-variants.{At, Refused as NotThere}
 use Rattle.file.specs.declared.RegisterKey.{RegisterKey}
 use Rattle.file.specs.declared.Record.{Record}
 use Rattle.file.specs.declared.Parsed.{Parsed}
@@ -151,3 +153,12 @@ recordOf s = record { front = front s; kind = kind s; label = label s; qubits = 
 -- "a record breaks its rule | 4 | number, record (0 on insertion)"
 unfoldable pub parseRecord : List ℕ → Parsed
 parseRecord s = cond (recordRule s) (Parses (recordOf s)) (Refused (BadRecord 0))
+
+-- "a record breaks its rule | 4 | number, record": record i of the file, where it stands at this place
+abbrev pub parseFrom : Place → List ℕ → ℕ → Parsed
+parseFrom (NotThere r) s i = Refused r
+parseFrom (At o l) s i = cond (recordRule (recordAt s i)) (Parses (recordOf (recordAt s i))) (Refused (BadRecord i))
+
+-- .. by its own pair: 2, 1, 8, 3 where the file has it not, then 4
+unfoldable pub parseAt : List ℕ → ℕ → Parsed
+parseAt s i = parseFrom (pairPlace s i) s i

@@ -2,7 +2,7 @@
 ghost use mathlib.Core.Path.{_≡_};
 ghost use Prim.Native.Nat.{_+_, _<_};
 ghost use lib.ListN.{length, getD};
-ghost use Rattle.file.specs.Pairs.{numberAt, countOf, offsetOf, lengthOf, checkFile, locateRecord, Part, PairPart};
+ghost use Rattle.file.specs.Pairs.{numberAt, countOf, offsetOf, lengthOf, checkFile, locateRecord, pairPlace, Part};
 use crate::FileCheck;
 use crate::Place;
 use crate::RecordPart;
@@ -57,30 +57,6 @@ pub fn record_count(file: &[u8]) -> usize
     field_at(file, 0)
 }
 
-// The offset that pair k gives, of any bytes and any k.
-pub fn pair_offset(file: &[u8], k: usize) -> usize
-    ensures { λ r. ⌜ r ≡ offsetOf (now (file .entry)) k ⌝ }
-{
-    let size = file.len();
-    if size < 2 {
-        return 0;
-    }
-    if (size - 2) / 4 < k {
-        return 0;
-    }
-    field_at(file, 2 + 4 * k)
-}
-
-// The length that pair k gives, of any bytes and any k.
-pub fn pair_length(file: &[u8], k: usize) -> usize
-    ensures { λ r. ⌜ r ≡ lengthOf (now (file .entry)) k ⌝ }
-{
-    if file.len() / 4 <= k {
-        return 0;
-    }
-    field_at(file, 4 + 4 * k)
-}
-
 // The header and the pairs, in the document's order: 2 once two bytes are there, then 1, then 3.
 pub fn check_file(file: &[u8]) -> FileCheck
     ensures { λ r. ⌜ r ≡ checkFile (now (file .entry)) ⌝ }
@@ -115,6 +91,33 @@ pub fn check_file(file: &[u8]) -> FileCheck
     }
 }
 
+// Where record i stands by the header and its own pair, in constant time: 2, 1, then 8, and 3 where the pair leads out of the file. A load checks
+// the pairs once and takes each record by this.
+pub(crate) fn locate_pair(file: &[u8], i: usize) -> Place
+    ensures { λ r. ⌜ r ≡ pairPlace (now (file .entry)) i ⌝ }
+{
+    let size = file.len();
+    if size < 2 {
+        return Place::Refused(Refusal::FileTooShort);
+    }
+    let n = read_u16(file, 0);
+    if 512 < n {
+        return Place::Refused(Refusal::TooManyRecords);
+    }
+    if size < 2 + 4 * n {
+        return Place::Refused(Refusal::FileTooShort);
+    }
+    if n <= i {
+        return Place::Refused(Refusal::Absent);
+    }
+    let offset = read_u16(file, 2 + 4 * i);
+    let length = read_u16(file, 4 + 4 * i);
+    if size < offset + length {
+        return Place::Refused(Refusal::BadPair(i));
+    }
+    Place::At { offset, length }
+}
+
 // Where record i stands in the file: 2, 1, 3, then 8.
 pub fn locate_record(file: &[u8], i: usize) -> Place
     ensures { λ r. ⌜ r ≡ locateRecord (now (file .entry)) i ⌝ }
@@ -122,22 +125,13 @@ pub fn locate_record(file: &[u8], i: usize) -> Place
     let found = check_file(file);
     match found {
         FileCheck::Refused(r) => Place::Refused(r),
-        FileCheck::Sound => {
-            let n = read_u16(file, 0);
-            if i < n {
-                let offset = read_u16(file, 2 + 4 * i);
-                let length = read_u16(file, 4 + 4 * i);
-                Place::At { offset, length }
-            } else {
-                Place::Refused(Refusal::Absent)
-            }
-        }
+        FileCheck::Sound => locate_pair(file, i),
     }
 }
 
 // Record i as it stands in the file, no copy: the part that locate_record names, or an empty part where it refuses.
 pub fn record_at(file: &[u8], i: usize) -> &[u8]
-    ensures { λ r. ⌜ Part (file .entry) r i ⌝ }
+    ensures { λ r. ⌜ Part (file .entry) r (locateRecord (now (file .entry)) i) ⌝ }
 {
     let place = locate_record(file, i);
     match place {
@@ -146,25 +140,21 @@ pub fn record_at(file: &[u8], i: usize) -> &[u8]
     }
 }
 
-// The part of the file that pair i gives, of any bytes and any i, no copy: what lies past the file's end is left out.
+// The same by the header and pair i alone, for a file whose pairs have been checked: the part that locate_pair names.
 pub fn part_of(file: &[u8], i: usize) -> &[u8]
-    ensures { λ r. ⌜ PairPart (file .entry) r i ⌝ }
+    ensures { λ r. ⌜ Part (file .entry) r (pairPlace (now (file .entry)) i) ⌝ }
 {
-    let size = file.len();
-    let offset = pair_offset(file, i);
-    let length = pair_length(file, i);
-    if size <= offset {
-        &file[size..size]
-    } else if size - offset < length {
-        &file[offset..size]
-    } else {
-        &file[offset..offset + length]
+    let place = locate_pair(file, i);
+    match place {
+        Place::At { offset, length } => &file[offset..offset + length],
+        Place::Refused(_) => &file[0..0],
     }
 }
 
 // Record i as it stands in the file, with where it stands or why it is refused.
 pub fn read_record<'a>(file: &'a [u8], i: usize) -> RecordPart<'a>
-    ensures { λ r. ⌜ Part (file .entry) (r .bytes) i × (r .place ≡ locateRecord (now (file .entry)) i) ⌝ }
+    ensures { λ r. ⌜ Part (file .entry) (r .bytes) (locateRecord (now (file .entry)) i)
+        × (r .place ≡ locateRecord (now (file .entry)) i) ⌝ }
 {
     RecordPart {
         bytes: record_at(file, i),

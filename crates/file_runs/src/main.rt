@@ -2,7 +2,7 @@
 // is printed with how often it came; tools/file_answers.py prints the same from document 01 alone.
 ghost use mathlib.Core.Path.{_≡_};
 ghost use Prim.Native.Nat.{_<_, _≤_};
-ghost use Rattle.file.specs.Pairs.{Part};
+ghost use Rattle.file.specs.Pairs.{Part, locateRecord};
 use file::FileCheck;
 use file::Parsed;
 use file::Place;
@@ -165,7 +165,7 @@ fn bytes_of<'a>(part: RecordPart<'a>) -> &'a [u8]
 
 // Record i, by the record reader.
 fn read_bytes<'a>(file: &'a [u8], i: usize) -> &'a [u8]
-    ensures { λ r. ⌜ Part (file .entry) r i ⌝ }
+    ensures { λ r. ⌜ Part (file .entry) r (locateRecord (now (file .entry)) i) ⌝ }
 {
     bytes_of(file::read_record(file, i))
 }

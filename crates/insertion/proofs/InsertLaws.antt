@@ -145,7 +145,7 @@ module _ (g : CircuitDag) (b : List ℕ) (keeps : recordRule b ≡ true) where
 
       maps-by : (p : Bool) → passing ≡ p → maps ≡ cond p (mapsKept v (g .«first_registers») (g .«last_registers») (TooManyRegisters 0)) new
       unfolding registerRecord
-      maps-by p e = rw (is, first, last, free, e) refl
+      maps-by p e = rw (is, first, last, keeps, free, e) refl
 
       pub too-many : (c : Refusal) → maps .answer ≡ Refused c → refused c g ≡ insertAs nearAll 0 g b
       too-many c z = by-pass passing refl

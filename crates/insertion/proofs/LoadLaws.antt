@@ -1,46 +1,68 @@
 -- A load: what its parts make is what its records make, inserted one by one. Assumes nothing.
-use mathlib.Core.Path.{_≡_, refl, sym, _∙_, ap}
+use mathlib.Core.Path.{_≡_, refl, sym, _∙_, ap, subst}
+use mathlib.Core.Bool.{true}
 use mathlib.Core.List.{List, [], _∷_, _++_}
 use Prim.Native.Nat.{ℕ, zero, suc, _+_, _-_, _≤_, _<_}
 use native.Mathlib.Omega.{arith}
 use native.Mathlib.Numerals.{add-one}
+use lib.Dec.{ltb}
 use lib.ListN.{length, take, drop, getD, set, replicate, length-replicate, length-set}
 use lib.Seq.{take-suc-set, take-length}
-use Rattle.file.specs.Lists.{countFrom, upTo}
+use borrow.Author.Tests.{lt-ltb}
+use Rattle.file.specs.Lists.{allOf, countFrom, upTo}
 use Rattle.file.specs.Pairs.{countOf, checkFile}
 use Rattle.file.specs.declared.Refusal.{Refusal}
 use Rattle.file.specs.declared.FileCheck.the-variants.{Sound, Refused as BadFile}
 use Rattle.file.proofs.PairLaws.{accepted}
 use Rattle.graph.specs.Dag.{empty}
-use Rattle.graph.proofs.ListLaws.{length-countFrom}
+use Rattle.graph.proofs.ListLaws.{length-countFrom, at-all}
+use Rattle.file.specs.declared.Outcome.{Outcome}
 use Rattle.file.specs.declared.Outcome.the-variants.{Done, Refused}
 use Rattle.links.specs.declared.LinkedRecords.{LinkedRecords}
 use Rattle.links.specs.Linking.{noLinks, linkRecords}
 use Rattle.registers.specs.declared.Registered.{Registered}
-use Rattle.registers.specs.Registers.{registerRecords}
+use Rattle.registers.specs.declared.RegisteredRecords.{RegisteredRecords}
+use Rattle.registers.specs.Registers.{enterRecords, joinedBy, registerRecords}
 use Rattle.insertion.specs.Load.{notLoaded, insertRecords, load}
 use Rattle.insertion.specs.Parts.{nodeLists, nodesAfter, assembled}
-use Rattle.insertion.proofs.PartLaws.{Together, together, links-between}
+use Rattle.insertion.proofs.PartLaws.{Together, together, not-both}
 
 -- ---- `insert_in_order`
 
-module _ (s l : List ℕ) (x : LinkedRecords) (ex : x ≡ linkRecords s noLinks l) where
-  pub linked-few : x .accepted ≤ length l
-  linked-few = let h = links-between s l noLinks .high in rw ex (omega (arith, h))
+module _ (s l : List ℕ) (sure : checkFile s ≡ Sound) (below : allOf (λ i. ltb i (countOf s)) l ≡ true) (short : length l ≤ 512) where
+  abbrev links : LinkedRecords
+  links = linkRecords s noLinks l
 
-  module _ (short : length l ≤ 512) (r : Registered) (er : r ≡ registerRecords s (take (x .accepted - 0) (drop 0 l))) where
-    t : Together s empty l x r
-    unfolding empty
-    t = rw (er, ex) (together s l empty (omega arith))
+  abbrev maps : Registered
+  maps = enterRecords s (take (links .accepted) l)
 
-    pub many : (c : Refusal) → r .answer ≡ Refused c → notLoaded c ≡ insertRecords s empty l
-    many c h = sym (t .many c h)
+  t : Together s empty l links maps
+  unfolding empty
+  t = let z : links .accepted - 0 ≡ links .accepted = omega arith in subst (λ (n : ℕ). Together s empty l links (enterRecords s (take n l))) z (together s sure l below empty (omega arith))
 
-    pub stops : (c : Refusal) → r .answer ≡ Done → x .answer ≡ Refused c → notLoaded c ≡ insertRecords s empty l
-    stops c h e = sym (t .stops c h e)
+  -- the one answer of both parts
+  refuses-by : (a b : Outcome) → maps .answer ≡ a → links .answer ≡ b → (c : Refusal) → joinedBy a b links maps .registered .answer ≡ Refused c → notLoaded c ≡ insertRecords s empty l
+  refuses-by (Refused d) b p q c e = let y : c ≡ d = cc in rw y (sym (t .many d p))
+  refuses-by Done (Refused d) p q c e = let y : c ≡ d = cc in rw y (sym (t .stops d p q))
+  refuses-by Done Done p q c e = not-both c (sym p ∙ e)
 
-    pub done : r .answer ≡ Done → x .answer ≡ Done → record { answer = Done; graph = assembled (nodesAfter s (nodeLists empty) l) x r } ≡ insertRecords s empty l
-    done h e = sym (t .whole h e)
+  makes-by : (a b : Outcome) → maps .answer ≡ a → links .answer ≡ b → (y : RegisteredRecords) → y ≡ joinedBy a b links maps → y .registered .answer ≡ Done
+      → record { answer = Done; graph = assembled (nodesAfter s (nodeLists empty) l) (y .linked) (y .registered) } ≡ insertRecords s empty l
+  makes-by (Refused d) b p q y m e = not-both d (sym e ∙ ap (λ (y : RegisteredRecords). y .registered .answer) m)
+  makes-by Done (Refused d) p q y m e = not-both d (sym e ∙ ap (λ (y : RegisteredRecords). y .registered .answer) m)
+  makes-by Done Done p q y m e =
+      ap (λ (y : RegisteredRecords). record { answer = Done; graph = assembled (nodesAfter s (nodeLists empty) l) (y .linked) (y .registered) }) m ∙ sym (t .whole p q)
+
+  module _ (y : RegisteredRecords) (made : y ≡ registerRecords s l) where
+    by-parts : y ≡ joinedBy (maps .answer) (links .answer) links maps
+    unfolding registerRecords
+    by-parts = made
+
+    pub refuses : (c : Refusal) → y .registered .answer ≡ Refused c → notLoaded c ≡ insertRecords s empty l
+    refuses c e = refuses-by (maps .answer) (links .answer) refl refl c (sym (ap (λ (y : RegisteredRecords). y .registered .answer) by-parts) ∙ e)
+
+    pub makes : y .registered .answer ≡ Done → record { answer = Done; graph = assembled (nodesAfter s (nodeLists empty) l) (y .linked) (y .registered) } ≡ insertRecords s empty l
+    makes e = makes-by (maps .answer) (links .answer) refl refl y by-parts e
 
 -- ---- `load`
 
@@ -60,6 +82,9 @@ count-at zero k i h = absurd (omega arith)
 count-at (suc m) k zero h = omega arith
 count-at (suc m) k (suc i) h = let r = count-at m (k + 1) i (omega arith) in omega arith
 
+pub all-below : (n : ℕ) → allOf (λ i. ltb i n) (upTo n) ≡ true
+all-below n = at-all (λ i. ltb i n) (upTo n) 0 (λ i h. let l : i < n = omega (arith, length-countFrom n 0) in let z : 0 + i ≡ i = omega arith in rw (count-at n 0 i l, z) (lt-ltb i n l))
+
 module _ (file order : List ℕ) (n : ℕ) (e : order ≡ upTo 512) (m : n ≡ countOf file) (good : checkFile file ≡ Sound) where
   pub few : n ≤ 512
   few = omega (arith, m, accepted file good .many)
@@ -69,6 +94,9 @@ module _ (file order : List ℕ) (n : ℕ) (e : order ≡ upTo 512) (m : n ≡ c
 
   pub few-numbers : length (take (n - 0) (drop 0 order)) ≤ 512
   few-numbers = rw numbers (omega (arith, few, length-countFrom n 0))
+
+  pub numbers-below : allOf (λ i. ltb i (countOf file)) (take (n - 0) (drop 0 order)) ≡ true
+  numbers-below = rw (numbers, ← m) (all-below n)
 
   pub whole : insertRecords file empty (take (n - 0) (drop 0 order)) ≡ load file
   unfolding load

@@ -7,10 +7,13 @@ use Prim.Native.Nat.{ℕ, zero, suc, _+_, _-_, _≤_, _<_}
 use native.Mathlib.Omega.{arith}
 use lib.Dec.{ltb, leb}
 use lib.ListN.{length, take}
-use borrow.Author.Tests.{lt-leb}
-use Rattle.file.specs.Pairs.{recordAt}
-use Rattle.file.specs.Records.{front, recordRule, qubitsOf}
-use Rattle.file.specs.declared.InvolvedQubits.{InvolvedQubits}
+use borrow.Author.Tests.{lt-leb, ltb-true}
+use Rattle.file.specs.Lists.{allOf}
+use Rattle.file.specs.Pairs.{countOf, checkFile, recordAt}
+use Rattle.file.specs.Records.{front, recordRule, qubitsOf, recordOf, parseAt}
+use Rattle.file.specs.declared.FileCheck.the-variants.{Sound}
+use Rattle.file.specs.declared.Parsed.the-variants.{Record as Parses, Refused as NotTaken}
+use Rattle.file.proofs.RecordLaws.{checked-at}
 use Rattle.file.specs.declared.Refusal.{Refusal}
 use Rattle.file.specs.declared.Refusal.the-variants.{BadRecord, TooManyNodes, TooManyEdges, TooManyRegisters}
 use Rattle.graph.specs.declared.CircuitDag.{CircuitDag}
@@ -20,6 +23,8 @@ use Rattle.file.specs.declared.Outcome.the-variants.{Done, Refused}
 use Rattle.links.specs.declared.LinkedRecords.{LinkedRecords}
 use Rattle.links.specs.Links.{Linked, nearAll, link, linkAt, withEdges}
 use Rattle.links.specs.Linking.{linksFrom, linksStopped, linkRecord, linkRecords}
+use Rattle.links.proofs.LinkingLaws.{links-between}
+use Rattle.links.proofs.QubitLaws.{all-first, all-rest}
 use Rattle.registers.specs.declared.Registered.{Registered}
 use Rattle.registers.specs.Registers.{mapsAfter, mapsPass, registersOf, stored, mapsStopped, registersFrom}
 use Rattle.insertion.specs.declared.Answer.the-variants.{Node}
@@ -110,45 +115,6 @@ module _ (i : ℕ) (g : CircuitDag) (b : List ℕ) where
 
 -- ---- a list of records
 
--- a record adds one node at most, and none leaves
-pub record Between (a b n : ℕ) : Type 0 where
-  pub low : a ≤ n
-  pub high : n ≤ b
-
-one-between : (i : ℕ) (f : Bool) (q : InvolvedQubits) (x : LinkedRecords) → Between (x .accepted) (x .accepted + 1) (linkRecord i f q x .accepted)
-unfolding linkRecord
-one-between i f q x = by-limits (leb 512 (x .accepted)) (ltb 2048 (x .edges .count + length (y .others)))
-  where
-    y : Linked
-    y = linkAt f q (x .accepted) (x .first) (x .last)
-
-    by-limits : (p r : Bool) → Between (x .accepted) (x .accepted + 1) (cond p (linksStopped (x .accepted) TooManyNodes) (cond r (linksStopped (x .accepted) (TooManyEdges i))
-        (linksFrom (x .accepted + 1) (withEdges (x .edges) (map (link f (x .accepted)) (y .others))) (cond f (y .near) (y .far)) (cond f (y .far) (y .near)))) .accepted)
-    by-limits true r = record { low = omega arith; high = omega arith }
-    by-limits false true = record { low = omega arith; high = omega arith }
-    by-limits false false = record { low = omega arith; high = omega arith }
-
-pub links-between : (s : List ℕ) (l : List ℕ) (x : LinkedRecords) → Between (x .accepted) (x .accepted + length l) (linkRecords s x l .accepted)
-unfolding linkRecords
-links-between s [] x = record { low = omega arith; high = omega arith }
-links-between s (i ∷ l) x = by-rule (recordRule (recordAt s i)) (links-between s l y)
-  where
-    y : LinkedRecords
-    y = linkRecord i (front (recordAt s i)) (qubitsOf (recordAt s i)) x
-
-    next : Between (x .accepted) (x .accepted + 1) (y .accepted)
-    next = one-between i (front (recordAt s i)) (qubitsOf (recordAt s i)) x
-
-    by-answer : (a : Outcome) → Between (y .accepted) (y .accepted + length l) (linkRecords s y l .accepted)
-        → Between (x .accepted) (x .accepted + length (i ∷ l)) (cond true (elim a [ Done ↦ linkRecords s y l | Refused t ↦ y ]) y .accepted)
-    by-answer Done h = record { low = omega (arith, next .low, h .low); high = omega (arith, next .high, h .high) }
-    by-answer (Refused t) h = record { low = next .low; high = omega (arith, next .high) }
-
-    by-rule : (r : Bool) → Between (y .accepted) (y .accepted + length l) (linkRecords s y l .accepted)
-        → Between (x .accepted) (x .accepted + length (i ∷ l)) (cond (not r) (linksStopped (x .accepted) (BadRecord i)) (elim (y .answer) [ Done ↦ linkRecords s y l | Refused t ↦ y ]) .accepted)
-    by-rule false h = record { low = omega arith; high = omega arith }
-    by-rule true h = by-answer (y .answer) h
-
 -- the links of the records, and the register maps of those that the links accept
 abbrev linksIn : List ℕ → CircuitDag → List ℕ → LinkedRecords
 linksIn s g l = linkRecords s (linksOf g) l
@@ -168,6 +134,17 @@ not-both c e = let z : _≡_ {A = ℕ} 0 1 = cc in absurd (omega arith)
 take-none : (n : ℕ) → take {A = ℕ} n [] ≡ []
 take-none zero = refl
 take-none (suc n) = refl
+
+-- the links of a list by those of its first record
+module _ (s : List ℕ) (g : CircuitDag) (i : ℕ) (l : List ℕ) where
+  links-not : (c : Refusal) → parseAt s i ≡ NotTaken c → linksIn s g (i ∷ l) ≡ linksStopped (size g) c
+  unfolding linkRecords
+  links-not c e = rw (e, linkRecords) refl
+
+  links-next : parseAt s i ≡ Parses (recordOf (recordAt s i)) → (y : LinkedRecords) → linkRecord i (front (recordAt s i)) (qubitsOf (recordAt s i)) (linksOf g) ≡ y
+      → linksIn s g (i ∷ l) ≡ elim (y .answer) as (λ z. LinkedRecords) [ Done ↦ linkRecords s y l | Refused c ↦ y ]
+  unfolding linkRecords
+  links-next e y q = rw (e, linkRecords) (ap (λ (y : LinkedRecords). elim (y .answer) as (λ z. LinkedRecords) [ Done ↦ linkRecords s y l | Refused c ↦ y ]) q)
 
 module _ (s : List ℕ) (g : CircuitDag) where
   none-registered : registersIn s g [] ≡ mapsOf g
@@ -198,7 +175,7 @@ module _ (s : List ℕ) (g : CircuitDag) where
         none-left : registersIn s g (i ∷ l) ≡ mapsOf g
         none-left = let z : linksIn s g (i ∷ l) .accepted - size g ≡ 0 = rw e (omega arith) in rw z refl
 
-    module _ (free : leb 512 (size g) ≡ false) (keeps : recordRule b ≡ true) (room : edgesPass nearAll g b ≡ false) where
+    module _ (there : recordRule b ≡ true → parseAt s i ≡ Parses (recordOf b)) (free : leb 512 (size g) ≡ false) (keeps : recordRule b ≡ true) (room : edgesPass nearAll g b ≡ false) where
       abbrev h : CircuitDag
       h = grown nearAll g b
 
@@ -206,8 +183,7 @@ module _ (s : List ℕ) (g : CircuitDag) where
       grown-size = ap (λ (x : LinkedRecords). x .accepted) (sym (links-at g b (front b) refl))
 
       links-on : linksIn s g (i ∷ l) ≡ linksIn s h l
-      unfolding linkRecords
-      links-on = rw (keeps, links-grown i g b keeps free room) (rw (links-grown i g b keeps free room) refl)
+      links-on = links-next s g i l (there keeps) (linksOf h) (links-grown i g b keeps free room)
 
       -- the record is left for the register maps
       taken : (k : ℕ) → size g < k → take (k - size g) (i ∷ l) ≡ i ∷ take (k - (size g + 1)) l
@@ -229,7 +205,7 @@ module _ (s : List ℕ) (g : CircuitDag) where
       }
         where
           stops-here : registersIn s g (i ∷ l) ≡ mapsStopped (size g) (TooManyRegisters i)
-          stops-here = let z : mapsPass (mapsAfter b (size g) (g .«first_registers») (g .«last_registers»)) ≡ true = sym (maps-pass i g b) ∙ p in registers-first ∙ rw (free, z) refl
+          stops-here = let z : mapsPass (mapsAfter b (size g) (g .«first_registers») (g .«last_registers»)) ≡ true = sym (maps-pass i g b) ∙ p in registers-first ∙ rw z refl
 
       -- the record is accepted
       module _ (fit : registersPass g b ≡ false) where
@@ -237,7 +213,7 @@ module _ (s : List ℕ) (g : CircuitDag) where
         unfolding registersFrom
         registers-on =
             let z : mapsPass (mapsAfter b (size g) (g .«first_registers») (g .«last_registers»)) ≡ false = sym (maps-pass i g b) ∙ fit in
-            registers-first ∙ rw (free, z, registers-at g b (front b) refl, links-on, grown-size) refl
+            registers-first ∙ rw (z, registers-at g b (front b) refl, links-on, grown-size) refl
 
         inserts-on : insertRecords s g (i ∷ l) ≡ insertRecords s h l
         unfolding insertRecords
@@ -254,10 +230,11 @@ module _ (s : List ℕ) (g : CircuitDag) where
           whole = λ q e. inserts-on ∙ rw (registers-on, links-on, nodes-on) (t .whole (rw registers-on at q) (rw links-on at e));
         }
 
-pub together : (s : List ℕ) (l : List ℕ) (g : CircuitDag) → size g + length l ≤ 512 → Together s g l (linksIn s g l) (registersIn s g l)
-unfolding linkRecords
-together s [] g h = together-none s g
-together s (i ∷ l) g h = by-rule (recordRule b) (edgesPass nearAll g b) (registersPass g b) refl refl refl (λ k. together s l (grown nearAll g b) k)
+pub together : (s : List ℕ) → checkFile s ≡ Sound → (l : List ℕ) → allOf (λ i. ltb i (countOf s)) l ≡ true → (g : CircuitDag) → size g + length l ≤ 512
+    → Together s g l (linksIn s g l) (registersIn s g l)
+together s sure [] below g h = together-none s g
+together s sure (i ∷ l) below g h =
+    by-rule (recordRule b) (edgesPass nearAll g b) (registersPass g b) refl refl refl (λ k. together s sure l (all-rest (λ j. ltb j (countOf s)) i l below) (grown nearAll g b) k)
   where
     b : List ℕ
     b = recordAt s i
@@ -265,10 +242,19 @@ together s (i ∷ l) g h = by-rule (recordRule b) (edgesPass nearAll g b) (regis
     free : leb 512 (size g) ≡ false
     free = lt-leb 512 (size g) (omega (arith, h))
 
+    at : parseAt s i ≡ cond (recordRule b) (Parses (recordOf b)) (NotTaken (BadRecord i))
+    at = checked-at s i sure (ltb-true i (countOf s) (all-first (λ j. ltb j (countOf s)) i l below))
+
+    there : recordRule b ≡ true → parseAt s i ≡ Parses (recordOf b)
+    there e = at ∙ ap (λ (c : Bool). cond c (Parses (recordOf b)) (NotTaken (BadRecord i))) e
+
+    not-taken : recordRule b ≡ false → parseAt s i ≡ NotTaken (BadRecord i)
+    not-taken e = at ∙ ap (λ (c : Bool). cond c (Parses (recordOf b)) (NotTaken (BadRecord i))) e
+
     by-rule : (p q r : Bool) → recordRule b ≡ p → edgesPass nearAll g b ≡ q → registersPass g b ≡ r
         → (size (grown nearAll g b) + length l ≤ 512 → Together s (grown nearAll g b) l (linksIn s (grown nearAll g b) l) (registersIn s (grown nearAll g b) l))
         → Together s g (i ∷ l) (linksIn s g (i ∷ l)) (registersIn s g (i ∷ l))
-    by-rule false q r e d c t = stopped-here s g i l (BadRecord i) (rw e refl) (broken i g b e)
-    by-rule true true r e d c t = stopped-here s g i l (TooManyEdges i) (rw (e, links-over i g b e free d) (rw (links-over i g b e free d) refl)) (over i g b e free d)
-    by-rule true false true e d c t = passes-here s g i l free e d c
-    by-rule true false false e d c t = together-on s g i l free e d c (t (omega (arith, h, grown-size s g i l free e d)))
+    by-rule false q r e d c t = stopped-here s g i l (BadRecord i) (links-not s g i l (BadRecord i) (not-taken e)) (broken i g b e)
+    by-rule true true r e d c t = stopped-here s g i l (TooManyEdges i) (links-next s g i l (there e) (linksStopped (size g) (TooManyEdges i)) (links-over i g b e free d)) (over i g b e free d)
+    by-rule true false true e d c t = passes-here s g i l there free e d c
+    by-rule true false false e d c t = together-on s g i l there free e d c (t (omega (arith, h, grown-size s g i l there free e d)))

@@ -1,9 +1,13 @@
 // "In loading, each record's part of the file goes to the insertion as it is." The links, the register maps and the nodes are each made in
 // a loop of their own, and the graph is put together once, at the end.
 ghost use mathlib.Core.Path.{_≡_};
+ghost use mathlib.Core.Bool.{true};
 ghost use Prim.Native.Nat.{_≤_};
+ghost use lib.Dec.{ltb};
 ghost use lib.ListN.{length};
-ghost use Rattle.file.specs.Lists.{upTo};
+ghost use Rattle.file.specs.Lists.{allOf, upTo};
+ghost use Rattle.file.specs.Pairs.{countOf, checkFile};
+ghost use Rattle.file.specs.declared.FileCheck.the-variants.{Sound};
 ghost use Rattle.graph.specs.Dag.{empty};
 ghost use Rattle.insertion.specs.Load.{notLoaded, insertRecords};
 ghost use Rattle.insertion.specs.Load.{load as loadOf};
@@ -38,27 +42,21 @@ pub(crate) fn file_order() -> [u16; 512]
     order
 }
 
-// The file's records with these numbers, one after the other, on the empty graph. The register maps see only the records before the links' first
-// refusal, so that theirs, if there is one, is the earlier.
+// The records with these numbers of a file that passed the check, one after the other, on the empty graph.
 pub(crate) fn insert_in_order(file: &[u8], order: &[u16]) -> Loaded
-    requires { ⌜ length (now order) ≤ 512 ⌝ }
+    requires { ⌜ (checkFile (now file) ≡ Sound) × (allOf (λ i. ltb i (countOf (now file))) (now order) ≡ true)
+        × (length (now order) ≤ 512) ⌝ }
     ensures { λ r. ⌜ r ≡ insertRecords (now (file .entry)) empty (now (order .entry)) ⌝ }
 {
-    let x = links::link_records(file, order);
-    let start: usize = 0;
-    let linked = x.accepted;
-    let r = registers::register_records(file, &order[start..linked]);
-    let registered = r.answer;
-    if let Outcome::Refused(cause) = registered {
-        return not_loaded(cause);
-    }
-    let answer = x.answer;
+    let x = registers::register_records(file, order);
+    let registered = x.registered;
+    let answer = registered.answer;
     if let Outcome::Refused(cause) = answer {
         return not_loaded(cause);
     }
     Loaded {
         answer: Outcome::Done,
-        graph: assemble(list_nodes(file, order), x, r),
+        graph: assemble(list_nodes(file, order), x.linked, registered),
     }
 }
 

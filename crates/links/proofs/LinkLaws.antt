@@ -3,14 +3,13 @@ use mathlib.Core.Path.{_≡_, refl, sym, _∙_}
 use mathlib.Core.Bool.{Bool, true, false, cond, _&&_}
 use mathlib.Core.List.{List, [], _∷_, _++_}
 use mathlib.Core.Logic.{_⊎_, ⊎-elim}
-use Prim.Native.Nat.{ℕ, suc, _+_, _^_, _<_, _≤_}
+use Prim.Native.Nat.{ℕ, zero, suc, _+_, _/_, _%_, _<_, _≤_}
 use native.Mathlib.Omega.{arith}
 use lib.Dec.{eqb, ltb}
-use lib.Count.{ones}
 use lib.ListN.{length, getD, set, length-append, length-set}
 use lib.Seq.{getD-set-same, getD-set-other}
-use borrow.Author.Tests.{lt-ltb, ltb-true, eqb-true, eqb-false, eq-eqb, ne-eqb}
-use Rattle.file.specs.Lists.{anyOf, allOf, distinct, member, add}
+use borrow.Author.Tests.{lt-ltb, le-ltb, ltb-true, eqb-true, eqb-false, eq-eqb, ne-eqb}
+use Rattle.file.specs.Lists.{anyOf, allOf, distinct, member, add, consIf}
 use Rattle.file.specs.declared.InvolvedQubits.{InvolvedQubits}
 use Rattle.file.specs.declared.InvolvedQubits.the-variants.{None, All, Set}
 use Rattle.graph.specs.declared.End.{End}
@@ -19,8 +18,8 @@ use Rattle.graph.specs.Soundness.{ascends}
 use Rattle.file.proofs.BoolLaws.{bool-cases, clash-bool, both-true}
 use Rattle.graph.proofs.ListLaws.{distinct-first, distinct-rest, distinct-more}
 use Rattle.links.specs.Links.{Linked, FarRule, nearAll, source, nearAfter, farAfter, noQubit, qubits, linkQubits, linkSet, mapped, linkAll, linkBy}
-use Rattle.links.specs.Links.{linkAt}
-use Rattle.links.proofs.QubitLaws.{all-more, all-first, all-rest, count-qubits, qubits-ascend}
+use Rattle.links.specs.Links.{linkAt, qubitsFrom, edgeBound}
+use Rattle.links.proofs.QubitLaws.{all-more, all-first, all-rest, qubits-ascend}
 
 -- ---- tests and lists
 
@@ -170,21 +169,42 @@ mapped-below v [] seen h o = o
 mapped-below v (u ∷ l) seen h o = mapped-below v l (addPresent u seen) (λ q. h (suc q)) (add-below v u seen (h 0) o)
 
 -- "their count bounds the edges added": "count of ones bounds edges added by a Set"
-pub set-bound : (rule : FarRule) (m v : ℕ) (near far : End) → m < 2 ^ 64 → length (linkSet rule m v near far .others) ≤ ones m
+pub set-bound : (rule : FarRule) (m v : ℕ) (near far : End) → length (linkSet rule m v near far .others) ≤ length (qubits m)
 unfolding linkSet
-set-bound rule m v near far h =
-    let b = link-length rule v (qubits m) (record { near = near; far = far; others = [] }) in
-    let n = count-qubits 64 0 m h in
-    omega (arith, b, n)
+set-bound rule m v near far = let b = link-length rule v (qubits m) (record { near = near; far = far; others = [] }) in omega (arith, b)
 
 -- an All adds at most an edge for each entry of the map
-pub all-bound : (v : ℕ) (near far : End) → length (linkAll v near far .others) ≤ length (near .node)
+all-bound : (v : ℕ) (near far : End) → length (linkAll v near far .others) ≤ length (near .node)
 unfolding linkAll
 all-bound v near far = let b = mapped-length (near .node) [] in go (noQubit near && noQubit far) (omega (arith, b))
   where
     go : (e : Bool) → length (mapped (near .node) []) ≤ length (near .node) → length (cond e [] (mapped (near .node) [])) ≤ length (near .node)
     go true h = omega arith
     go false h = h
+
+-- .. and any record no more than its bound
+pub others-bound : (q : InvolvedQubits) (rule : FarRule) (v : ℕ) (near far : End) → length (near .node) ≡ 64 → length (linkBy q rule v near far .others) ≤ edgeBound q
+others-bound None rule v near far h = omega arith
+others-bound All rule v near far h = omega (arith, all-bound v near far, h)
+others-bound (Set m) rule v near far h = set-bound rule m v near far
+
+-- a mask has at most 64 qubits
+qubits-few : (k q m : ℕ) → length (qubitsFrom k q m) ≤ k
+unfolding qubitsFrom
+qubits-few zero q m = omega arith
+qubits-few (suc k) q m = go (eqb (m % 2) 1) (qubits-few k (q + 1) (m / 2))
+  where
+    go : (b : Bool) → length (qubitsFrom k (q + 1) (m / 2)) ≤ k → length (consIf b q (qubitsFrom k (q + 1) (m / 2))) ≤ suc k
+    go true h = omega arith
+    go false h = omega arith
+
+pub surely-fits : (n k b : ℕ) → k ≤ b → n + b ≤ 2048 → false ≡ ltb 2048 (n + k)
+surely-fits n k b h f = sym (le-ltb 2048 (n + k) (omega arith))
+
+pub bound-few : (q : InvolvedQubits) → edgeBound q ≤ 64
+bound-few None = omega arith
+bound-few All = omega arith
+bound-few (Set m) = qubits-few 64 0 m
 
 -- "the edge stands once, however often added"
 pub others-distinct : (q : InvolvedQubits) (rule : FarRule) (v : ℕ) (near far : End) → distinct eqb (linkBy q rule v near far .others) ≡ true

@@ -9,17 +9,15 @@ use native.Mathlib.Decide.{ℕ-discrete}
 use lib.Dec.{ltb, leb}
 use lib.ListN.{length, getD, drop, replicate, length-take, length-replicate, drop-of-length-le, List·getD-eq-default}
 use lib.Seq.{drop-cons}
-use borrow.Author.Tests.{lt-ltb, le-ltb, lt-leb, le-leb, ltb-true, leb-true}
+use borrow.Author.Tests.{lt-ltb, le-ltb, lt-leb, le-leb, ltb-true, leb-true, leb-false}
 use Rattle.file.specs.Lists.{anyOf, allOf}
-use Rattle.file.specs.Pairs.{recordAt}
-use Rattle.file.specs.Records.{front, parseRecord}
+use Rattle.file.specs.Records.{parseAt}
 use Rattle.file.specs.declared.InvolvedQubits.{InvolvedQubits}
 use Rattle.file.specs.declared.Record.{Record}
 use Rattle.file.specs.declared.Parsed.{Parsed}
-use Rattle.file.specs.declared.Parsed.the-variants.{Record as Parses, Refused as BadPart}
+use Rattle.file.specs.declared.Parsed.the-variants.{Record as Parses, Refused as NotTaken}
 use Rattle.file.specs.declared.Refusal.{Refusal}
-use Rattle.file.specs.declared.Refusal.the-variants.{BadRecord, TooManyNodes, TooManyEdges, Unsound}
-use Rattle.file.proofs.RecordLaws.{parsed, not-parsed}
+use Rattle.file.specs.declared.Refusal.the-variants.{TooManyNodes, TooManyEdges, Unsound}
 use Rattle.graph.specs.declared.NodeIndex.{NodeIndex}
 use Rattle.graph.specs.declared.Edges.{Edges}
 use Rattle.graph.specs.declared.End.{End}
@@ -32,42 +30,11 @@ use Rattle.graph.proofs.SoundnessLaws.{named-all, named-node}
 use Rattle.file.specs.declared.Outcome.{Outcome}
 use Rattle.file.specs.declared.Outcome.the-variants.{Done, Refused}
 use Rattle.links.specs.declared.LinkedRecords.{LinkedRecords}
-use Rattle.links.specs.Links.{Linked, link, linkAt, withEdges}
-use Rattle.links.specs.Ends.{EndState, endState, several, endOf, endStateOf, EndFits, JoinedEnds, JoinedEndsBy, EdgesAdded, LinkedRecord, RecordLinked}
+use Rattle.links.specs.Links.{Linked, nearAll, link, linkAt, withEdges, edgeBound}
+use Rattle.links.specs.Ends.{EndState, endState, several, endOf, endStateOf, EndFits, JoinedEnds, JoinedEndsBy, EdgesAdded}
 use Rattle.links.specs.Linking.{linksFrom, noLinks, linksStopped, linkRecord, linkRecords, linksFit, linksKept, linkNode}
 use Rattle.links.proofs.JoinLaws.{fits-none}
-
--- ---- `link_record`
-
-module _ (front : Bool) (x : Linked) (v : ℕ) (r : JoinedEnds) (fn ln : List ℕ) (fb lb : List Bool) (others : List ℕ) (j : JoinedEndsBy front x (v + 1) r fn ln fb lb others) where
-  others-count : length (x .others) ≡ r .count
-  others-count = rw (← j .joined, length-take) (omega (arith, j .few, j .size))
-
-  pub no-room : (es : Edges) (from to : List ℕ) → 2048 < es .count + r .count
-      → RecordLinked front v x es (record { edges = es .count + r .count; first = r .first; last = r .last }) from to fn ln fb lb
-  no-room es from to l = record {
-    count = rw others-count refl;
-    edge-list = λ h. absurd (omega arith);
-    from-size = λ h. absurd (omega arith);
-    to-size = λ h. absurd (omega arith);
-    first = j .first;
-    last = j .last;
-    first-fits = j .first-fits;
-    last-fits = j .last-fits;
-  }
-
-  pub room : (es : Edges) (from to : List ℕ) → EdgesAdded front v others (r .count) (es .count) (es .from) (es .to) from to
-      → RecordLinked front v x es (record { edges = es .count + r .count; first = r .first; last = r .last }) from to fn ln fb lb
-  room es from to e = record {
-    count = rw others-count refl;
-    edge-list = λ h. rw (← j .joined) (e .is);
-    from-size = λ h. e .from-size;
-    to-size = λ h. e .to-size;
-    first = j .first;
-    last = j .last;
-    first-fits = j .first-fits;
-    last-fits = j .last-fits;
-  }
+use Rattle.links.proofs.LinkLaws.{others-bound}
 
 -- ---- `names_below`
 
@@ -140,47 +107,61 @@ module _ (i : ℕ) (f : Bool) (q : InvolvedQubits) (k : ℕ) (es : Edges) (first
   unfolding linkRecord
   nodes-full h = rw (le-leb 512 k h) refl
 
-  module _ (small : k < 512) (r : LinkedRecord) (from to fn ln : List ℕ) (fb lb : List Bool) (l : RecordLinked f k (linkAt f q k first last) es r from to fn ln fb lb) where
+  module _ (small : k < 512) (s : JoinedEnds) (fn ln : List ℕ) (fb lb : List Bool) (others : List ℕ) (j : JoinedEndsBy f (linkAt f q k first last) (k + 1) s fn ln fb lb others) where
     abbrev x : Linked
     x = linkAt f q k first last
 
-    by-count : (b : Bool) → ltb 2048 (r .edges) ≡ b → linkRecord i f q (linksFrom k es first last)
+    others-count : length (x .others) ≡ s .count
+    others-count = rw (← j .joined, length-take) (omega (arith, j .few, j .size))
+
+    -- "their count bounds the edges added"
+    bounded : length (first .node) ≡ 64 → length (last .node) ≡ 64 → s .count ≤ edgeBound q
+    bounded a b = by-end f (sym others-count)
+      where
+        by-end : (f : Bool) → s .count ≡ length (linkAt f q k first last .others) → s .count ≤ edgeBound q
+        by-end true z = let o = others-bound q nearAll k first last a in omega (arith, o, z)
+        by-end false z = let o = others-bound q nearAll k last first b in omega (arith, o, z)
+
+    by-count : (b : Bool) → ltb 2048 (es .count + s .count) ≡ b → linkRecord i f q (linksFrom k es first last)
         ≡ cond b (linksStopped k (TooManyEdges i)) (linksFrom (k + 1) (withEdges es (map (link f k) (x .others))) (cond f (x .near) (x .far)) (cond f (x .far) (x .near)))
     unfolding linkRecord
     by-count b e =
-        let z : ltb 2048 (es .count + length (x .others)) ≡ b = rw (← l .count) e in
+        let z : ltb 2048 (es .count + length (x .others)) ≡ b = rw others-count e in
         rw (lt-leb 512 k small) (ap (λ (c : Bool). cond c (linksStopped k (TooManyEdges i))
         (linksFrom (k + 1) (withEdges es (map (link f k) (x .others))) (cond f (x .near) (x .far)) (cond f (x .far) (x .near)))) z)
 
-    edges-full : 2048 < r .edges → linkRecord i f q (linksFrom k es first last) ≡ linksStopped k (TooManyEdges i)
-    edges-full h = by-count true (lt-ltb 2048 (r .edges) h)
+    edges-full : 2048 < es .count + s .count → linkRecord i f q (linksFrom k es first last) ≡ linksStopped k (TooManyEdges i)
+    edges-full h = by-count true (lt-ltb 2048 (es .count + s .count) h)
 
-    grows : r .edges ≤ 2048 → linkRecord i f q (linksFrom k es first last)
-        ≡ linksFrom (k + 1) (record { count = r .edges; from = from; to = to }) (endOf fn (r .first) fb) (endOf ln (r .last) lb)
-    grows h = by-count false (le-ltb 2048 (r .edges) h) ∙ sym (λ j. linksFrom (k + 1) (l .edge-list h j) (l .first j) (l .last j))
+    grows : es .count + s .count ≤ 2048 → (from to : List ℕ) → EdgesAdded f k others (s .count) (es .count) (es .from) (es .to) from to → linkRecord i f q (linksFrom k es first last)
+        ≡ linksFrom (k + 1) (record { count = es .count + s .count; from = from; to = to }) (endOf fn (s .first) fb) (endOf ln (s .last) lb)
+    grows h from to a = by-count false (le-ltb 2048 (es .count + s .count) h) ∙ sym (λ t. linksFrom (k + 1) (edges t) (j .first t) (j .last t))
+      where
+        edges : _≡_ {A = Edges} (record { count = es .count + s .count; from = from; to = to }) (withEdges es (map (link f k) (x .others)))
+        edges = rw (← j .joined) (a .is)
 
 -- .. on the ends and edges of a graph, whose numbers are lent
 module _ (f : Bool) (q : InvolvedQubits) (v : NodeIndex) (es : Edges) (first last : End) (fit : linksFit (v .0) es first last ≡ true) where
   pub node-full : 512 ≤ v .0 → linksKept v es first last TooManyNodes ≡ linkNode f q v es first last
   node-full h = node-refused f q v es first last fit (v .0) TooManyNodes (nodes-full 0 f q (v .0) es first last h)
 
-  module _ (small : v .0 < 512) (a b : EndState) (ea : a ≡ endStateOf first) (eb : b ≡ endStateOf last) (r : LinkedRecord) (from to fn ln : List ℕ) (fb lb : List Bool)
-      (l : RecordLinked f (v .0) (linkAt f q (v .0) (endOf (first .node) a (first .block)) (endOf (last .node) b (last .block))) es r from to fn ln fb lb) where
-    lent : RecordLinked f (v .0) (linkAt f q (v .0) first last) es r from to fn ln fb lb
-    lent = subst (λ (x : Linked). RecordLinked f (v .0) x es r from to fn ln fb lb)
-        (λ j. linkAt f q (v .0) (endOf (first .node) (ea j) (first .block)) (endOf (last .node) (eb j) (last .block))) l
+  module _ (small : v .0 < 512) (a b : EndState) (ea : a ≡ endStateOf first) (eb : b ≡ endStateOf last) (s : JoinedEnds) (fn ln : List ℕ) (fb lb : List Bool) (others : List ℕ)
+      (j : JoinedEndsBy f (linkAt f q (v .0) (endOf (first .node) a (first .block)) (endOf (last .node) b (last .block))) (v .0 + 1) s fn ln fb lb others) where
+    lent : JoinedEndsBy f (linkAt f q (v .0) first last) (v .0 + 1) s fn ln fb lb others
+    lent = subst (λ (x : Linked). JoinedEndsBy f x (v .0 + 1) s fn ln fb lb others)
+        (λ t. linkAt f q (v .0) (endOf (first .node) (ea t) (first .block)) (endOf (last .node) (eb t) (last .block))) j
 
-    pub node-stops : 2048 < r .edges → linksKept v es first last (TooManyEdges 0) ≡ linkNode f q v es first last
-    node-stops h = node-refused f q v es first last fit (v .0) (TooManyEdges 0) (edges-full 0 f q (v .0) es first last small r from to fn ln fb lb lent h)
+    pub node-bounded : EndSized first → EndSized last → s .count ≤ edgeBound q
+    node-bounded y z = bounded 0 f q (v .0) es first last small s fn ln fb lb others lent (y .node) (z .node)
 
-    pub node-grows : r .edges ≤ 2048 → linksFrom (v .0 + 1) (record { count = r .edges; from = from; to = to }) (endOf fn (r .first) fb) (endOf ln (r .last) lb) ≡ linkNode f q v es first last
-    node-grows h = node-done f q v es first last fit _ (grows 0 f q (v .0) es first last small r from to fn ln fb lb lent h) refl
+    pub node-stops : 2048 < es .count + s .count → linksKept v es first last (TooManyEdges 0) ≡ linkNode f q v es first last
+    node-stops h = node-refused f q v es first last fit (v .0) (TooManyEdges 0) (edges-full 0 f q (v .0) es first last small s fn ln fb lb others lent h)
+
+    pub node-grows : es .count + s .count ≤ 2048 → (from to : List ℕ) → EdgesAdded f (v .0) others (s .count) (es .count) (es .from) (es .to) from to
+        → linksFrom (v .0 + 1) (record { count = es .count + s .count; from = from; to = to }) (endOf fn (s .first) fb) (endOf ln (s .last) lb) ≡ linkNode f q v es first last
+    node-grows h from to e = node-done f q v es first last fit _ (grows 0 f q (v .0) es first last small s fn ln fb lb others lent h from to e) refl
 
 -- ---- `link_records`
-
--- what the part of record i is read as
-pub read-part : (file part : List ℕ) (i : ℕ) (x y : Parsed) → part ≡ recordAt file i → x ≡ parseRecord part → x ≡ y → parseRecord (recordAt file i) ≡ y
-read-part file part i x y e p q = ap parseRecord (sym e) ∙ sym p ∙ q
 
 -- the records that are left, after one that gives y
 abbrev onward : List ℕ → List ℕ → LinkedRecords → LinkedRecords
@@ -221,35 +202,74 @@ module _ (file order : List ℕ) (k count : ℕ) (first last : EndState) (from t
     turn : linkRecords file held (i ∷ drop (k + 1) order) ≡ linkRecords file noLinks order
     turn = let e = drop-cons order k 0 h in rw (is, add-one, ← e) (l .same)
 
-    pub bad-record : (x : Refusal) → parseRecord (recordAt file i) ≡ BadPart x → linksStopped k (BadRecord i) ≡ linkRecords file noLinks order
+    pub not-taken : (c : Refusal) → parseAt file i ≡ NotTaken c → linksStopped k c ≡ linkRecords file noLinks order
     unfolding linkRecords
-    bad-record x e = rw (not-parsed (recordAt file i) x e, linkRecords) at turn
+    not-taken c e = rw (e, linkRecords) at turn
 
-    module _ (r : Record) (e : parseRecord (recordAt file i) ≡ Parses r) where
+    module _ (r : Record) (e : parseAt file i ≡ Parses r) where
       -- what the record gives goes on
       goes : (y : LinkedRecords) → linkRecord i (r .front) (r .qubits) held ≡ y → onward file (drop (k + 1) order) y ≡ linkRecords file noLinks order
       unfolding linkRecords
-      goes y z =
-          let p = parsed (recordAt file i) r e in
-          subst (λ (y : LinkedRecords). onward file (drop (k + 1) order) y ≡ linkRecords file noLinks order)
-          (subst (λ (b : Record). linkRecord i (b .front) (b .qubits) held ≡ y) (p .1) z)
-          (rw (p .0, linkRecords) at turn)
+      goes y z = subst (λ (y : LinkedRecords). onward file (drop (k + 1) order) y ≡ linkRecords file noLinks order) z (rw (e, linkRecords) at turn)
 
       pub nodes-stop : 512 ≤ k → linksStopped k TooManyNodes ≡ linkRecords file noLinks order
       nodes-stop m = goes (linksStopped k TooManyNodes) (nodes-full i (r .front) (r .qubits) k _ _ _ m)
 
-      module _ (s : LinkedRecord) (from′ to′ fn′ ln′ : List ℕ) (fb′ lb′ : List Bool)
-          (j : RecordLinked (r .front) k (linkAt (r .front) (r .qubits) k (endOf fn first fb) (endOf ln last lb)) (record { count = count; from = from; to = to }) s from′ to′ fn′ ln′ fb′ lb′) (small : k < 512) where
-        pub edges-stop : 2048 < s .edges → linksStopped k (TooManyEdges i) ≡ linkRecords file noLinks order
-        edges-stop m = goes (linksStopped k (TooManyEdges i)) (edges-full i (r .front) (r .qubits) k _ _ _ small s from′ to′ fn′ ln′ fb′ lb′ j m)
+      module _ (s : JoinedEnds) (fn′ ln′ : List ℕ) (fb′ lb′ : List Bool) (others : List ℕ)
+          (j : JoinedEndsBy (r .front) (linkAt (r .front) (r .qubits) k (endOf fn first fb) (endOf ln last lb)) (k + 1) s fn′ ln′ fb′ lb′ others) (small : k < 512) where
+        pub few-others : s .count ≤ edgeBound (r .qubits)
+        few-others = bounded i (r .front) (r .qubits) k (record { count = count; from = from; to = to }) _ _ small s fn′ ln′ fb′ lb′ others j (l .first-fits .nodes) (l .last-fits .nodes)
 
-        pub again : s .edges ≤ 2048 → Linking file order (k + 1) (s .edges) (s .first) (s .last) from′ to′ fn′ ln′ fb′ lb′
-        again m = record {
+        pub edges-stop : 2048 < count + s .count → linksStopped k (TooManyEdges i) ≡ linkRecords file noLinks order
+        edges-stop m = goes (linksStopped k (TooManyEdges i)) (edges-full i (r .front) (r .qubits) k _ _ _ small s fn′ ln′ fb′ lb′ others j m)
+
+        pub again : count + s .count ≤ 2048 → (from′ to′ : List ℕ) → EdgesAdded (r .front) k others (s .count) count from to from′ to′
+            → Linking file order (k + 1) (count + s .count) (s .first) (s .last) from′ to′ fn′ ln′ fb′ lb′
+        again m from′ to′ a = record {
           low = omega arith;
           room = m;
-          from-size = j .from-size m;
-          to-size = j .to-size m;
+          from-size = a .from-size;
+          to-size = a .to-size;
           first-fits = j .first-fits;
           last-fits = j .last-fits;
-          same = goes _ (grows i (r .front) (r .qubits) k _ _ _ small s from′ to′ fn′ ln′ fb′ lb′ j m);
+          same = goes _ (grows i (r .front) (r .qubits) k _ _ _ small s fn′ ln′ fb′ lb′ others j m from′ to′ a);
         }
+
+-- ---- how many nodes a list of records makes
+
+-- a record adds one node at most, none leaves, and there are at most 512
+pub record Between (a b n : ℕ) : Type 0 where
+  pub low : a ≤ n
+  pub high : n ≤ b
+  pub few : a ≤ 512 → n ≤ 512
+
+one-between : (i : ℕ) (f : Bool) (q : InvolvedQubits) (x : LinkedRecords) → Between (x .accepted) (x .accepted + 1) (linkRecord i f q x .accepted)
+unfolding linkRecord
+one-between i f q x = by-limits (leb 512 (x .accepted)) (ltb 2048 (x .edges .count + length (y .others))) refl
+  where
+    y : Linked
+    y = linkAt f q (x .accepted) (x .first) (x .last)
+
+    by-limits : (p r : Bool) → leb 512 (x .accepted) ≡ p → Between (x .accepted) (x .accepted + 1) (cond p (linksStopped (x .accepted) TooManyNodes) (cond r (linksStopped (x .accepted) (TooManyEdges i))
+        (linksFrom (x .accepted + 1) (withEdges (x .edges) (map (link f (x .accepted)) (y .others))) (cond f (y .near) (y .far)) (cond f (y .far) (y .near)))) .accepted)
+    by-limits true r e = record { low = omega arith; high = omega arith; few = λ h. h }
+    by-limits false true e = record { low = omega arith; high = omega arith; few = λ h. h }
+    by-limits false false e = record { low = omega arith; high = omega arith; few = λ h. omega (arith, leb-false 512 (x .accepted) e) }
+
+pub links-between : (s : List ℕ) (l : List ℕ) (x : LinkedRecords) → Between (x .accepted) (x .accepted + length l) (linkRecords s x l .accepted)
+unfolding linkRecords
+links-between s [] x = record { low = omega arith; high = omega arith; few = λ h. h }
+links-between s (i ∷ l) x = by-parsed (parseAt s i) (λ y. links-between s l y)
+  where
+    by-answer : (y : LinkedRecords) (a : Outcome) → Between (x .accepted) (x .accepted + 1) (y .accepted) → Between (y .accepted) (y .accepted + length l) (linkRecords s y l .accepted)
+        → Between (x .accepted) (x .accepted + length (i ∷ l)) (elim a as (λ z. LinkedRecords) [ Done ↦ linkRecords s y l | Refused c ↦ y ] .accepted)
+    by-answer y Done n h = record { low = omega (arith, n .low, h .low); high = omega (arith, n .high, h .high); few = λ k. h .few (n .few k) }
+    by-answer y (Refused c) n h = record { low = n .low; high = omega (arith, n .high); few = n .few }
+
+    by-parsed : (p : Parsed) → ((y : LinkedRecords) → Between (y .accepted) (y .accepted + length l) (linkRecords s y l .accepted))
+        → Between (x .accepted) (x .accepted + length (i ∷ l)) (elim p as (λ z. LinkedRecords) [
+          | NotTaken c ↦ linksStopped (x .accepted) c
+          | Parses r ↦ let y = linkRecord i (r .front) (r .qubits) x in elim (y .answer) as (λ z. LinkedRecords) [ Done ↦ linkRecords s y l | Refused c ↦ y ]
+        ] .accepted)
+    by-parsed (NotTaken c) h = record { low = omega arith; high = omega arith; few = λ k. k }
+    by-parsed (Parses r) h = let y = linkRecord i (r .front) (r .qubits) x in by-answer y (y .answer) (one-between i (r .front) (r .qubits) x) (h y)

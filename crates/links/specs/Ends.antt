@@ -153,24 +153,3 @@ pub record JoinedEndsBy (front : Bool) (x : Linked) (n : ℕ) (r : JoinedEnds) (
 -- the numbers of an end of a graph: nothing is mapped from 64 on, and of the block it is said only whether it has a node
 abbrev pub endStateOf : End → EndState
 endStateOf e = record { all = e .all; top = 64; members = cond (anyOf (λ b. b) (e .block)) several absent }
-
--- what linking a record leaves beside the arrays
-pub record LinkedRecord : Type 0 where
-  pub edges : ℕ
-  pub first : EndState
-  pub last : EndState
-
--- .. by the numbers that are lent
-abbrev pub linkedRecord : ℕ → List ℕ → List ℕ → LinkedRecord
-linkedRecord edges first last = record { edges = edges; first = endState first; last = endState last }
-
--- the ends and edges after node v joined them by the rule's x; where the edges would pass 2,048 only their count is said
-pub record RecordLinked (front : Bool) (v : ℕ) (x : Linked) (edges : Edges) (r : LinkedRecord) (from to firstNode lastNode : List ℕ) (firstBlock lastBlock : List Bool) : Type 0 where
-  pub count : r .edges ≡ edges .count + length (x .others)
-  pub edge-list : r .edges ≤ 2048 → _≡_ {A = Edges} (record { count = r .edges; from = from; to = to }) (withEdges edges (map (link front v) (x .others)))
-  pub from-size : r .edges ≤ 2048 → length from ≡ 2048
-  pub to-size : r .edges ≤ 2048 → length to ≡ 2048
-  pub first : endOf firstNode (r .first) firstBlock ≡ cond front (x .near) (x .far)
-  pub last : endOf lastNode (r .last) lastBlock ≡ cond front (x .far) (x .near)
-  pub first-fits : EndFits (v + 1) firstNode (r .first) firstBlock
-  pub last-fits : EndFits (v + 1) lastNode (r .last) lastBlock

@@ -5,11 +5,11 @@ use Prim.Native.Nat.{ℕ, _+_}
 use lib.Dec.{ltb, leb}
 use lib.ListN.{length}
 use Rattle.file.specs.Lists.{allOf}
-use Rattle.file.specs.Pairs.{recordAt}
-use Rattle.file.specs.Records.{front, recordRule, qubitsOf}
+use Rattle.file.specs.Records.{parseAt}
 use Rattle.file.specs.declared.InvolvedQubits.{InvolvedQubits}
+use Rattle.file.specs.declared.Parsed.the-variants.{Record as Parses, Refused as NotTaken}
 use Rattle.file.specs.declared.Refusal.{Refusal}
-use Rattle.file.specs.declared.Refusal.the-variants.{BadRecord, TooManyNodes, TooManyEdges, Unsound}
+use Rattle.file.specs.declared.Refusal.the-variants.{TooManyNodes, TooManyEdges, Unsound}
 use Rattle.graph.specs.declared.NodeIndex.{NodeIndex}
 use Rattle.graph.specs.declared.Edges.{Edges}
 use Rattle.graph.specs.declared.End.{End}
@@ -38,12 +38,14 @@ linkRecord i f qubits x = let y = linkAt f qubits (x .accepted) (x .first) (x .l
     (cond (ltb 2048 (x .edges .count + length (y .others))) (linksStopped (x .accepted) (TooManyEdges i))
     (linksFrom (x .accepted + 1) (withEdges (x .edges) (map (link f (x .accepted)) (y .others))) (cond f (y .near) (y .far)) (cond f (y .far) (y .near))))
 
--- the file's records with these numbers, one after the other: "then per record 4" and so on
+-- the file's records with these numbers, one after the other: 2, 1, 8, 3 where the file has no such record, "then per record 4" and so on
 unfoldable pub linkRecords : List ℕ → LinkedRecords → List ℕ → LinkedRecords
 linkRecords s x [] = x
-linkRecords s x (i ∷ l) = let y = linkRecord i (front (recordAt s i)) (qubitsOf (recordAt s i)) x in
-    cond (not (recordRule (recordAt s i))) (linksStopped (x .accepted) (BadRecord i))
-    (elim (y .answer) [ Done ↦ linkRecords s y l | Refused r ↦ y ])
+linkRecords s x (i ∷ l) =
+    elim (parseAt s i) [
+      | NotTaken c ↦ linksStopped (x .accepted) c
+      | Parses r ↦ let y = linkRecord i (r .front) (r .qubits) x in elim (y .answer) [ Done ↦ linkRecords s y l | Refused c ↦ y ]
+    ]
 
 -- the clauses on the ends and edges that linking goes by: "every stored node number is below the node count", of the maps, firstAll and lastAll;
 -- and "2,048 edges"

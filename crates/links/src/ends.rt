@@ -3,6 +3,7 @@
 ghost use mathlib.Core.Path.{_≡_};
 ghost use mathlib.Core.Bool.{true, false, not, cond, _&&_};
 ghost use Prim.Native.Nat.{ℕ, _+_, _-_, _^_, _≤_, _<_};
+ghost use lib.Dec.{ltb};
 ghost use lib.ListN.{length, getD, set, take, replicate};
 ghost use lib.Bits.{bitAnd};
 ghost use lib.Count.{trailingZeros};
@@ -10,7 +11,7 @@ ghost use Rattle.file.specs.Lists.{member, anyOf};
 ghost use Rattle.graph.specs.Dag.{absent, present, orElse};
 ghost use Rattle.links.specs.Links.{nearAll, qubits, linkSet, linkAll, linkBy, link};
 ghost use Rattle.links.specs.Ends.{entryAt, withEntry, endState, Only, OtherAdded, SetLinked, AllLinked, StateGrown, nearState, farState, JoinedBy, JoinedEndsBy, EdgesAdded, lentEnd, LentFits, joined, joinedEnds};
-ghost use Rattle.links.specs.Links.{linkAt};
+ghost use Rattle.links.specs.Links.{linkAt, edgeBound};
 use file::InvolvedQubits;
 use graph::NodeIndex;
 use graph::Qubit;
@@ -65,11 +66,37 @@ fn without_lowest(m: u64) -> u64
     m & (m - 1)
 }
 
-// How many qubits a mask has: a bound on the edges that it adds.
-pub fn qubit_count(mask: u64) -> u32
+// How many qubits a mask has.
+fn qubit_count(mask: u64) -> u32
     ensures { λ r. ⌜ r ≡ length (qubits mask) ⌝ }
 {
     u64::count_ones(mask)
+}
+
+// The most edges that a record with these qubits adds: the count of a Set's qubits bounds them.
+fn edge_bound(qubits: InvolvedQubits) -> usize
+    ensures { λ r. ⌜ r ≡ edgeBound qubits ⌝ }
+{
+    match qubits {
+        InvolvedQubits::None => 0,
+        InvolvedQubits::All => 64,
+        InvolvedQubits::Set(mask) => qubit_count(mask) as usize,
+    }
+}
+
+// Whether the edges pass 2,048 with the k new ones of a record with these qubits. The bound on k decides wherever it leaves room; a mask has at most
+// 64 qubits, so that they are counted near the limit only.
+pub(crate) fn edges_pass(edges: usize, k: usize, qubits: InvolvedQubits) -> bool
+    requires { ⌜ (edges ≤ 2048) × (k ≤ edgeBound qubits) ⌝ }
+    ensures { λ r. ⌜ r ≡ ltb 2048 (edges + k) ⌝ }
+{
+    if edges <= 1984 {
+        return false;
+    }
+    if edges + edge_bound(qubits) <= 2048 {
+        return false;
+    }
+    2048 < edges + k
 }
 
 // Whether s is among the first k of others.

@@ -3,7 +3,6 @@
 mod ends;
 mod records;
 
-pub use ends::qubit_count;
 use file::Outcome;
 use graph::Edges;
 use graph::End;

@@ -7,12 +7,12 @@ ghost use lib.Dec.{ltb};
 ghost use lib.ListN.{length};
 ghost use Rattle.file.specs.Lists.{allOf};
 ghost use Rattle.graph.specs.Soundness.{named, ifPresent};
-ghost use Rattle.links.specs.Ends.{endState, endStateOf, RecordLinked, lentEnd, LentFits, linkedRecord};
-ghost use Rattle.links.specs.Links.{linkAt};
+ghost use Rattle.links.specs.Ends.{endState, endStateOf, lentEnd};
 ghost use Rattle.links.specs.Linking.{linksFrom, linksStopped, noLinks, linksFit, linksKept, linkNode, linkRecords};
 use crate::LinkedRecords;
 use crate::ends::ALL;
 use crate::ends::add_edges;
+use crate::ends::edges_pass;
 use crate::ends::join_record;
 use file::InvolvedQubits;
 use file::Outcome;
@@ -21,54 +21,6 @@ use file::Refusal;
 use graph::Edges;
 use graph::End;
 use graph::NodeIndex;
-
-// Node v joins the two ends, and its edges the edges that stand, if there is room for them: how many there are then; over 2,048 are too many.
-fn link_record(
-    front: bool,
-    qubits: InvolvedQubits,
-    v: NodeIndex,
-    edges: usize,
-    first: &mut [u16; 3],
-    last: &mut [u16; 3],
-    from: &mut [u16; 2048],
-    to: &mut [u16; 2048],
-    first_node: &mut [u16; 64],
-    last_node: &mut [u16; 64],
-    first_block: &mut [bool; 512],
-    last_block: &mut [bool; 512],
-    others: &mut [u16; 64],
-) -> usize
-    requires { ⌜ (v .0 < 512) × (edges ≤ 2048) × (length (now from) ≡ 2048) × (length (now to) ≡ 2048) × (length (now others) ≡ 64)
-        × LentFits (v .0) (now first) (now «first_node») (now «first_block»)
-        × LentFits (v .0) (now last) (now «last_node») (now «last_block») ⌝ }
-    ensures { λ r. ⌜ RecordLinked front (v .0)
-        (linkAt front qubits (v .0)
-        (lentEnd (now (first .entry)) (now («first_node» .entry)) (now («first_block» .entry)))
-        (lentEnd (now (last .entry)) (now («last_node» .entry)) (now («last_block» .entry))))
-        (record { count = edges; from = now (from .entry); to = now (to .entry) }) (linkedRecord r (now (first .exit)) (now (last .exit)))
-        (now (from .exit)) (now (to .exit)) (now («first_node» .exit)) (now («last_node» .exit))
-        (now («first_block» .exit)) (now («last_block» .exit))
-        × (length (now (others .exit)) ≡ 64) ⌝ }
-{
-    let k = join_record(
-        front,
-        qubits,
-        v,
-        first,
-        last,
-        first_node,
-        last_node,
-        first_block,
-        last_block,
-        &mut *others,
-    );
-    let total = edges + k;
-    if 2048 < total {
-        return total;
-    }
-    add_edges(front, v, &*others, k, from, to, edges);
-    total
-}
 
 // The refusal of the record after k accepted ones.
 fn links_stopped(k: usize, r: Refusal) -> LinkedRecords
@@ -211,27 +163,25 @@ pub fn link_node(
     let mut first_block = first.block;
     let mut last_block = last.block;
     let mut others = [0u16; 64];
-    let count = link_record(
+    let joined = join_record(
         front,
         qubits,
         v,
-        edges.count,
         &mut first_numbers,
         &mut last_numbers,
-        &mut from,
-        &mut to,
         &mut first_node,
         &mut last_node,
         &mut first_block,
         &mut last_block,
         &mut others,
     );
-    if 2048 < count {
+    if edges_pass(edges.count, joined, qubits) {
         return links_kept(v, edges, first, last, Refusal::TooManyEdges(0));
     }
+    add_edges(front, v, &others, joined, &mut from, &mut to, edges.count);
     links_held(
         n + 1,
-        count,
+        edges.count + joined,
         first_numbers,
         last_numbers,
         from,
@@ -243,7 +193,7 @@ pub fn link_node(
     )
 }
 
-// The file's records with these numbers, one after the other, as nodes 0, 1, 2, ..: 4, 5, 6.
+// The file's records with these numbers, one after the other, as nodes 0, 1, 2, ..: each 2, 1, 8, 3 where the file has it not, then 4, 5, 6.
 pub fn link_records(file: &[u8], order: &[u16]) -> LinkedRecords
     ensures { λ r. ⌜ r ≡ linkRecords (now (file .entry)) noLinks (now (order .entry)) ⌝ }
 {
@@ -260,9 +210,10 @@ pub fn link_records(file: &[u8], order: &[u16]) -> LinkedRecords
     let mut k: usize = 0;
     while k < order.len() {
         let i = file::to_index(order[k]);
-        let parsed = file::parse_record(file::part_of(file, i));
-        let Parsed::Record(r) = parsed else {
-            return links_stopped(k, Refusal::BadRecord(i));
+        let parsed = file::parse_at(file, i);
+        let r = match parsed {
+            Parsed::Refused(c) => return links_stopped(k, c),
+            Parsed::Record(r) => r,
         };
         if 512 <= k {
             return links_stopped(k, Refusal::TooManyNodes);
@@ -270,24 +221,23 @@ pub fn link_records(file: &[u8], order: &[u16]) -> LinkedRecords
         let front = r.front;
         let qubits = r.qubits;
         let v = NodeIndex(k as u16);
-        count = link_record(
+        let joined = join_record(
             front,
             qubits,
             v,
-            count,
             &mut first,
             &mut last,
-            &mut from,
-            &mut to,
             &mut first_node,
             &mut last_node,
             &mut first_block,
             &mut last_block,
             &mut others,
         );
-        if 2048 < count {
+        if edges_pass(count, joined, qubits) {
             return links_stopped(k, Refusal::TooManyEdges(i));
         }
+        add_edges(front, v, &others, joined, &mut from, &mut to, count);
+        count += joined;
         k += 1;
     }
     links_held(

@@ -2,25 +2,34 @@
 use mathlib.Core.Path.{_≡_, refl, sym, _∙_, ap, subst}
 use mathlib.Core.Bool.{Bool, true, false, cond, not, _&&_, _||_}
 use mathlib.Core.List.{List, [], _∷_}
-use Prim.Native.Nat.{ℕ, _+_, _≤_, _<_}
+use Prim.Native.Nat.{ℕ, _+_, _-_, _≤_, _<_}
+use native.Mathlib.Omega.{arith}
 use native.Mathlib.Numerals.{add-one}
 use lib.Dec.{ltb, leb}
-use lib.ListN.{length, getD, drop, replicate, drop-of-length-le}
+use lib.ListN.{length, getD, take, drop, replicate, drop-of-length-le}
 use lib.Seq.{drop-cons}
 use borrow.Author.Tests.{le-leb, lt-leb, le-ltb, ltb-false, leb-true, not-false}
 use Rattle.file.specs.Lists.{allOf}
 use Rattle.file.specs.Pairs.{recordAt}
-use Rattle.file.specs.Records.{front, classicalOf}
+use Rattle.file.specs.Records.{front, classicalOf, recordRule, recordOf}
 use Rattle.file.specs.declared.InvolvedClassical.{InvolvedClassical}
 use Rattle.file.specs.declared.InvolvedClassical.the-variants.{None}
-use Rattle.file.specs.declared.Refusal.the-variants.{TooManyNodes, TooManyRegisters, Unsound}
+use Rattle.file.specs.declared.Record.{Record}
+use Rattle.file.specs.declared.Outcome.{Outcome}
+use Rattle.file.specs.declared.Outcome.the-variants.{Done, Refused}
+use Rattle.file.specs.declared.Refusal.{Refusal}
+use Rattle.file.specs.declared.Refusal.the-variants.{BadRecord, TooManyNodes, TooManyRegisters, Unsound}
 use Rattle.graph.specs.declared.NodeIndex.{NodeIndex}
 use Rattle.graph.specs.declared.Registers.{Registers}
 use Rattle.graph.specs.Dag.{Entry, entriesOf, noRegisters}
 use Rattle.graph.specs.Soundness.{keysDistinct, registerMapRule}
 use Rattle.file.proofs.BoolLaws.{and-l, and-r, or-l, or-r}
 use Rattle.graph.proofs.SizeLaws.{RegistersSized}
-use Rattle.registers.specs.Registers.{Maps, withEntries, registersAfter, mapsAfter, mapsPass, registersOf, stored, mapsStopped, mapsKept, registersFrom, registerRecords, registerRecord}
+use Rattle.links.specs.declared.LinkedRecords.{LinkedRecords}
+use Rattle.links.specs.Linking.{noLinks, linkRecords}
+use Rattle.links.proofs.LinkingLaws.{links-between}
+use Rattle.registers.specs.declared.Registered.{Registered}
+use Rattle.registers.specs.Registers.{Maps, withEntries, registersAfter, mapsAfter, mapsPass, registersOf, stored, mapsStopped, mapsKept, registersFrom, enterRecords, recordsStopped, joinedBy, registerRecords, registerRecord}
 use Rattle.registers.specs.RegisterMaps.{registers, Fits, EndsBecome, pass}
 use Rattle.registers.proofs.RegisterLaws.{ends-nothing, ends-fit, fits-none}
 
@@ -67,60 +76,83 @@ module _ (s : List ℕ) (v : ℕ) (first last first′ last′ : Registers) (bec
         (ltb-false 256 (first′ .count) (or-l (ltb 256 (first′ .count)) (ltb 256 (last′ .count)) room))
         (ltb-false 256 (last′ .count) (or-r (ltb 256 (first′ .count)) (ltb 256 (last′ .count)) room))
 
--- the promise of `enter_record`, by what the record says
+-- the promise of `enter_record`, by what the record says ..
 pub by-record : (s : List ℕ) (v : ℕ) (first last first′ last′ : Registers) (f : Bool) (k : InvolvedClassical) → f ≡ front s → k ≡ classicalOf s
     → EndsBecome f k s v first last first′ last′ → EndsBecome (front s) (classicalOf s) s v first last first′ last′
 by-record s v first last first′ last′ f k p q e =
     subst (λ (x : Bool). EndsBecome x (classicalOf s) s v first last first′ last′) p (subst (λ (x : InvolvedClassical). EndsBecome f x s v first last first′ last′) q e)
 
+-- .. and by what it was parsed as
+pub by-parsed : (s : List ℕ) (v : ℕ) (first last first′ last′ : Registers) (r : Record) → r ≡ recordOf s
+    → EndsBecome (r .front) (r .classical) s v first last first′ last′ → EndsBecome (front s) (classicalOf s) s v first last first′ last′
+by-parsed s v first last first′ last′ r p e = by-record s v first last first′ last′ (r .front) (r .classical) (ap (λ (x : Record). x .front) p) (ap (λ (x : Record). x .classical) p) e
+
 -- ---- A list of records: before the k-th, what is left gives what the whole list gives
 
 pub record Registering (file order : List ℕ) (k : ℕ) (first last : Registers) : Type 0 where
+  pub few : length order ≤ 512
   pub first-fits : Fits first
   pub last-fits : Fits last
-  pub same : registersFrom file (registersOf k first last) (drop k order) ≡ registerRecords file order
+  pub same : registersFrom file (registersOf k first last) (drop k order) ≡ enterRecords file order
 
-pub begin : (file order : List ℕ) → Registering file order 0 (registers 0 (replicate 256 0) (replicate 256 0) (replicate 256 0)) (registers 0 (replicate 256 0) (replicate 256 0) (replicate 256 0))
+pub begin : (file order : List ℕ) → length order ≤ 512 → Registering file order 0 (registers 0 (replicate 256 0) (replicate 256 0) (replicate 256 0)) (registers 0 (replicate 256 0) (replicate 256 0) (replicate 256 0))
 unfolding noRegisters
-begin file order = record { first-fits = fits-none; last-fits = fits-none; same = refl }
+begin file order h = record { few = h; first-fits = fits-none; last-fits = fits-none; same = refl }
 
 module _ (file order : List ℕ) (k : ℕ) (first last : Registers) (before : Registering file order k first last) where
-  pub finish : length order ≤ k → registersOf k first last ≡ registerRecords file order
+  pub finish : length order ≤ k → registersOf k first last ≡ enterRecords file order
   unfolding registersFrom
   finish h = let z : drop k order ≡ [] = drop-of-length-le order {i = k} h in rw z at (before .same)
 
-  module _ (more : k < length order) where
-    turn : registersFrom file (registersOf k first last) (getD order k 0 ∷ drop (k + 1) order) ≡ registerRecords file order
+  module _ (more : k < length order) (i : ℕ) (is : i ≡ getD order k 0) (s : List ℕ) (part : s ≡ recordAt file i) where
+    turn : registersFrom file (registersOf k first last) (getD order k 0 ∷ drop (k + 1) order) ≡ enterRecords file order
     turn = rw (add-one, ← drop-cons order k 0 more) (before .same)
 
-    pub over : 512 ≤ k → mapsStopped k TooManyNodes ≡ registerRecords file order
-    unfolding registersFrom
-    over h = rw (le-leb 512 k h, registersFrom) at turn
+    here : s ≡ recordAt file (getD order k 0)
+    here = part ∙ ap (recordAt file) is
 
-    module _ (free : k < 512) (i : ℕ) (is : i ≡ getD order k 0) (s : List ℕ) (part : s ≡ recordAt file i) where
-      here : s ≡ recordAt file (getD order k 0)
-      here = part ∙ ap (recordAt file) is
+    module _ (first′ last′ : Registers) (become : EndsBecome (front s) (classicalOf s) s k first last first′ last′) where
+      pub refused : countsPass first′ last′ ≡ true → mapsStopped k (TooManyRegisters i) ≡ enterRecords file order
+      unfolding registersFrom
+      refused h = ap (λ (j : ℕ). mapsStopped k (TooManyRegisters j)) is ∙ (rw (← here, passes s k first last first′ last′ become true h, registersFrom) at turn)
 
-      module _ (first′ last′ : Registers) (become : EndsBecome (front s) (classicalOf s) s k first last first′ last′) where
-        pub refused : countsPass first′ last′ ≡ true → mapsStopped k (TooManyRegisters i) ≡ registerRecords file order
-        unfolding registersFrom
-        refused h = ap (λ (j : ℕ). mapsStopped k (TooManyRegisters j)) is ∙ (rw (lt-leb 512 k free, ← here, passes s k first last first′ last′ become true h, registersFrom) at turn)
+      pub again : countsPass first′ last′ ≡ false → Registering file order (k + 1) first′ last′
+      unfolding registersFrom
+      again h =
+          let f = fit s k first last first′ last′ become h (before .first-fits) (before .last-fits) in
+          record {
+            few = before .few;
+            first-fits = f .0;
+            last-fits = f .1;
+            same = rw (is-stored s k first last first′ last′ become h (k + 1)) (rw (← here, passes s k first last first′ last′ become false h, registersFrom) at turn);
+          }
 
-        pub again : countsPass first′ last′ ≡ false → Registering file order (k + 1) first′ last′
-        unfolding registersFrom
-        again h =
-            let f = fit s k first last first′ last′ become h (before .first-fits) (before .last-fits) in
-            record {
-              first-fits = f .0;
-              last-fits = f .1;
-              same = rw (is-stored s k first last first′ last′ become h (k + 1))
-                  (rw (lt-leb 512 k free, ← here, passes s k first last first′ last′ become false h, registersFrom) at turn);
-            }
+    -- a record without registers
+    pub skip : (c : InvolvedClassical) → c ≡ classicalOf s → c ≡ None → Registering file order (k + 1) first last
+    skip c p q = again first last (ends-nothing (front s) (classicalOf s) s k first last (sym p ∙ q) (before .first-fits) (before .last-fits))
+        (counts-fit first last (before .first-fits) (before .last-fits))
 
-      -- a record without registers
-      pub skip : (c : InvolvedClassical) → c ≡ classicalOf s → c ≡ None → Registering file order (k + 1) first last
-      skip c p q = again first last (ends-nothing (front s) (classicalOf s) s k first last (sym p ∙ q) (before .first-fits) (before .last-fits))
-          (counts-fit first last (before .first-fits) (before .last-fits))
+-- ---- The links and the maps together
+
+module _ (file order : List ℕ) (x : LinkedRecords) (made : x ≡ linkRecords file noLinks order) where
+  -- the records that the links accept
+  pub accepted-few : (x .accepted ≤ length order) × (x .accepted ≤ 512)
+  accepted-few = let b = links-between file order noLinks in rw made (omega (arith, b .high), b .few (omega arith))
+
+  module _ (r : Registered) (entered : r ≡ enterRecords file (take (x .accepted - 0) (drop 0 order))) where
+    joined : joinedBy (r .answer) (x .answer) x r ≡ registerRecords file order
+    unfolding registerRecords
+    joined = let z : x .accepted - 0 ≡ x .accepted = omega arith in rw (entered, z, made) refl
+
+    pub maps-refuse : (c : Refusal) → r .answer ≡ Refused c → recordsStopped (r .accepted) c ≡ registerRecords file order
+    maps-refuse c e = sym (ap (λ (a : Outcome). joinedBy a (x .answer) x r) e) ∙ joined
+
+    module _ (done : r .answer ≡ Done) where
+      pub links-refuse : (c : Refusal) → x .answer ≡ Refused c → recordsStopped (x .accepted) c ≡ registerRecords file order
+      links-refuse c e = sym (λ j. joinedBy (done j) (e j) x r) ∙ joined
+
+      pub both-accept : x .answer ≡ Done → record { linked = x; registered = r } ≡ registerRecords file order
+      both-accept e = sym (λ j. joinedBy (done j) (e j) x r) ∙ joined
 
 -- ---- One record on maps that are handed in
 
@@ -152,15 +184,20 @@ module _ (first last : Registers) (v : NodeIndex) (b : Bool) (test : b ≡ (regi
     not-maps t = rw (← test, t) refl
 
     module _ (t : not b ≡ false) where
-      pub no-node : 512 ≤ v .0 → mapsKept v first last TooManyNodes ≡ registerRecord first last s v
+      pub broken : recordRule s ≡ false → mapsKept v first last (BadRecord 0) ≡ registerRecord first last s v
       unfolding registerRecord
-      no-node h = rw (← test, t, le-leb 512 (v .0) h) refl
+      broken h = rw (← test, t, h) refl
 
-      module _ (free : v .0 < 512) (first′ last′ : Registers) (become : EndsBecome (front s) (classicalOf s) s (v .0) first last first′ last′) where
-        pub too-many : countsPass first′ last′ ≡ true → mapsKept v first last (TooManyRegisters 0) ≡ registerRecord first last s v
+      module _ (keeps : recordRule s ≡ true) where
+        pub no-node : 512 ≤ v .0 → mapsKept v first last TooManyNodes ≡ registerRecord first last s v
         unfolding registerRecord
-        too-many h = rw (← test, t, lt-leb 512 (v .0) free, passes s (v .0) first last first′ last′ become true h) refl
+        no-node h = rw (← test, t, keeps, le-leb 512 (v .0) h) refl
 
-        pub entered : countsPass first′ last′ ≡ false → (n : ℕ) → n ≡ v .0 → registersOf (n + 1) first′ last′ ≡ registerRecord first last s v
-        unfolding registerRecord
-        entered h n e = rw (← test, t, lt-leb 512 (v .0) free, passes s (v .0) first last first′ last′ become false h, e) (is-stored s (v .0) first last first′ last′ become h (v .0 + 1))
+        module _ (free : v .0 < 512) (first′ last′ : Registers) (become : EndsBecome (front s) (classicalOf s) s (v .0) first last first′ last′) where
+          pub too-many : countsPass first′ last′ ≡ true → mapsKept v first last (TooManyRegisters 0) ≡ registerRecord first last s v
+          unfolding registerRecord
+          too-many h = rw (← test, t, keeps, lt-leb 512 (v .0) free, passes s (v .0) first last first′ last′ become true h) refl
+
+          pub entered : countsPass first′ last′ ≡ false → (n : ℕ) → n ≡ v .0 → registersOf (n + 1) first′ last′ ≡ registerRecord first last s v
+          unfolding registerRecord
+          entered h n e = rw (← test, t, keeps, lt-leb 512 (v .0) free, passes s (v .0) first last first′ last′ become false h, e) (is-stored s (v .0) first last first′ last′ become h (v .0 + 1))

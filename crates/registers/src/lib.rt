@@ -1,9 +1,10 @@
-// The register maps of a circuit's records. The rules are in specs/.
+// The register maps of a circuit's records, and the links and maps of a list of records together. The rules are in specs/.
 mod entries;
 mod maps;
 
 use file::Outcome;
 use graph::Registers;
+use links::LinkedRecords;
 pub use maps::register_record;
 pub use maps::register_records;
 
@@ -13,4 +14,10 @@ pub struct Registered {
     pub answer: Outcome,
     pub first: Registers,
     pub last: Registers,
+}
+
+// The ends and edges of a list of records, and their register maps. Both have the one answer: the first refusal in the order of insertion.
+pub struct RegisteredRecords {
+    pub linked: LinkedRecords,
+    pub registered: Registered,
 }

@@ -1,19 +1,24 @@
-// The register maps of a list of records, and of one record on maps that are handed in. No other part of a graph is read, and the records are not
-// checked: a load has the links check them.
+// The register maps of a list of records, and of one record on maps that are handed in. No other part of a graph is read. Of a list the links are
+// made first: they check the records, and the maps are made of those that they accept.
 ghost use mathlib.Core.Path.{_≡_};
 ghost use mathlib.Core.Bool.{_&&_, _||_};
+ghost use Prim.Native.Nat.{_≤_};
 ghost use lib.Dec.{ltb};
+ghost use lib.ListN.{length};
 ghost use Rattle.graph.specs.Soundness.{registerMapRule};
-ghost use Rattle.registers.specs.Registers.{registersOf, mapsStopped, mapsKept, registerRecords, registerRecord};
+ghost use Rattle.registers.specs.Registers.{registersOf, mapsStopped, mapsKept, enterRecords, recordsStopped, registerRecords, registerRecord};
 ghost use Rattle.registers.specs.RegisterMaps.{registers};
 use crate::Registered;
+use crate::RegisteredRecords;
 use crate::entries::EndCounts;
 use crate::entries::enter_record;
 use file::InvolvedClassical;
 use file::Outcome;
+use file::Parsed;
 use file::Refusal;
 use graph::NodeIndex;
 use graph::Registers;
+use links::LinkedRecords;
 
 // Whether a register map would pass 256.
 fn maps_pass(m: EndCounts) -> bool
@@ -79,9 +84,10 @@ fn maps_held(
     }
 }
 
-// The file's records with these numbers, one after the other, as nodes 0, 1, 2, ..: 5, 7.
-pub fn register_records(file: &[u8], order: &[u16]) -> Registered
-    ensures { λ r. ⌜ r ≡ registerRecords (now (file .entry)) (now (order .entry)) ⌝ }
+// The maps of the file's records with these numbers, which the links have accepted, one after the other as nodes 0, 1, 2, ..: 7.
+fn enter_records(file: &[u8], order: &[u16]) -> Registered
+    requires { ⌜ length (now order) ≤ 512 ⌝ }
+    ensures { λ r. ⌜ r ≡ enterRecords (now (file .entry)) (now (order .entry)) ⌝ }
 {
     let mut first_name = [0u8; 256];
     let mut first_index = [0u16; 256];
@@ -95,9 +101,6 @@ pub fn register_records(file: &[u8], order: &[u16]) -> Registered
     let mut last = 0usize;
     let mut k: usize = 0;
     while k < order.len() {
-        if 512 <= k {
-            return maps_stopped(k, Refusal::TooManyNodes);
-        }
         let i = file::to_index(order[k]);
         let part = file::part_of(file, i);
         let classical = file::involved_classical(part);
@@ -142,6 +145,42 @@ pub fn register_records(file: &[u8], order: &[u16]) -> Registered
     )
 }
 
+// The refusal of the record after k accepted ones, of the links and the maps.
+fn records_stopped(k: usize, r: Refusal) -> RegisteredRecords
+    ensures { λ x. ⌜ x ≡ recordsStopped k r ⌝ }
+{
+    RegisteredRecords {
+        linked: LinkedRecords {
+            accepted: k,
+            answer: Outcome::Refused(r),
+            edges: graph::no_edges(),
+            first: graph::no_end(),
+            last: graph::no_end(),
+        },
+        registered: maps_stopped(k, r),
+    }
+}
+
+// The file's records with these numbers, one after the other, as nodes 0, 1, 2, ..: each 2, 1, 8, 3 where the file has it not, then 4 to 7. The maps see
+// only the records before the links' first refusal, so that theirs, if there is one, is the earlier.
+pub fn register_records(file: &[u8], order: &[u16]) -> RegisteredRecords
+    ensures { λ r. ⌜ r ≡ registerRecords (now (file .entry)) (now (order .entry)) ⌝ }
+{
+    let linked = links::link_records(file, order);
+    let start: usize = 0;
+    let accepted = linked.accepted;
+    let registered = enter_records(file, &order[start..accepted]);
+    let entered = registered.answer;
+    if let Outcome::Refused(cause) = entered {
+        return records_stopped(registered.accepted, cause);
+    }
+    let answer = linked.answer;
+    if let Outcome::Refused(cause) = answer {
+        return records_stopped(accepted, cause);
+    }
+    RegisteredRecords { linked, registered }
+}
+
 // Whether both maps keep the clauses on a map of a graph with v nodes.
 fn maps_fit(first: Registers, last: Registers, v: NodeIndex) -> bool
     ensures { λ r. ⌜ r ≡ (registerMapRule (v .0) first && registerMapRule (v .0) last) ⌝ }
@@ -153,13 +192,17 @@ fn maps_fit(first: Registers, last: Registers, v: NodeIndex) -> bool
     false
 }
 
-// One record as node v on the register maps of a graph with v nodes: 11, 5, 7. A refusal leaves them as they were.
+// One record as node v on the register maps of a graph with v nodes: 11, 4, 5, 7. A refusal leaves them as they were.
 pub fn register_record(first: Registers, last: Registers, part: &[u8], v: NodeIndex) -> Registered
     ensures { λ r. ⌜ r ≡ registerRecord first last (now (part .entry)) v ⌝ }
 {
     if !maps_fit(first, last, v) {
         return maps_kept(v, first, last, Refusal::Unsound);
     }
+    let parsed = file::parse_record(part);
+    let Parsed::Record(r) = parsed else {
+        return maps_kept(v, first, last, Refusal::BadRecord(0));
+    };
     if 512 <= v.0 {
         return maps_kept(v, first, last, Refusal::TooManyNodes);
     }
@@ -171,10 +214,12 @@ pub fn register_record(first: Registers, last: Registers, part: &[u8], v: NodeIn
     let mut last_index = last.index;
     let mut last_node = last.node;
     let mut last_hints = [0u16; 2048];
+    let front = r.front;
+    let classical = r.classical;
     let m = enter_record(
-        file::is_front(part),
+        front,
         part,
-        file::involved_classical(part),
+        classical,
         v,
         &mut first_name,
         &mut first_index,

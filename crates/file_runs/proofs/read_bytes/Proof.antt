@@ -98,7 +98,7 @@ module _ {M : Type 1} (𝓤 : URA M) (H : Heap 𝓤) (A : Atoms 𝓤) (W : Given
 
   -- what the reader says of its part
   abbrev Said : RecordPart → Type 0
-  Said r = Part s (r .bytes) i × (r .place ≡ locateRecord (now s) i)
+  Said r = Part s (r .bytes) (locateRecord (now s) i) × (r .place ≡ locateRecord (now s) i)
 
   reader-said : (r : RecordPart) → ent 𝓤 (ensured 𝓤 H A reader.ended (reader.clauses 𝓤 H A mem run) (κ, tt) (s, (i, tt)) tt r) (fact 𝓤 (Said r))
   reader-said r = exE 𝓤 _ (λ ws. snd∗ 𝓤 (sem 𝓤 H A (lasts reader.ended (κ, tt) (s, (i, tt)) ws)) (fact 𝓤 (Said r)))
@@ -113,7 +113,7 @@ module _ {M : Type 1} (𝓤 : URA M) (H : Heap 𝓤) (A : Atoms 𝓤) (W : Given
   bytes-said : (r : RecordPart) (t : RefT (List ℕ)) → ent 𝓤 (ensured 𝓤 H A bytes.ended (bytes.clauses 𝓤 H A mem run) (κ, tt) (r, tt) tt t) (fact 𝓤 (t ≡ r .bytes))
   bytes-said r t = exE 𝓤 _ (λ ws. snd∗ 𝓤 (sem 𝓤 H A (lasts bytes.ended (κ, tt) (r, tt) ws)) (fact 𝓤 (t ≡ r .bytes)))
 
-  exits : (t : RefT (List ℕ)) (u : Val) → Part s t i → ent 𝓤 (⋆ 𝓤 H A (‵ (Own t u) ∷ (‵ (flft κ q) ⊛ ‵ ftrue) ∷ ‵ (Own s v) ∷ [])) (Post u)
+  exits : (t : RefT (List ℕ)) (u : Val) → Part s t (locateRecord (now s) i) → ent 𝓤 (⋆ 𝓤 H A (‵ (Own t u) ∷ (‵ (flft κ q) ⊛ ‵ ftrue) ∷ ‵ (Own s v) ∷ [])) (Post u)
   exits t u e =
       qed W (‵ (Own t u) ∷ (‵ (flft κ q) ⊛ ‵ ftrue) ∷ ‵ (Own s v) ∷ []) ∵
       suffices ! _ (ends-at 𝓤 H A read.ended stayed (read.clauses 𝓤 H A mem run) W (((κ, tt), (q, tt), tt, (s, (i, tt)), at), tt) u t (tt, (tt, tt)) (tt, (tt, tt))) $ says ! e $
@@ -141,7 +141,7 @@ module _ {M : Type 1} (𝓤 : URA M) (H : Heap 𝓤) (A : Atoms 𝓤) (W : Given
         land ! (from ! (stop !)) (init ! 9 refl (shr-slice-lawful 𝓤 H A W (named 0) κ u8 .typed t (u′ ∷ []) is′ .0)) $
         returns ! (look ! 9 refl) $ forget ! 3 refl $ forget ! 5 refl $ forget ! 7 refl $ forget ! 9 refl $
         move ! (9 ∷ 10 ∷ []) $ free1 ! $ move ! (7 ∷ 8 ∷ []) $ free1 ! $ move ! (5 ∷ 6 ∷ []) $ free1 ! $ move ! (3 ∷ 4 ∷ []) $ free1 ! $ free0 ! $
-        by ! (exits t u′ (subst (λ (x : RefT (List ℕ)). Part s x i) (sym e′) (e .0)))))))))))))))
+        by ! (exits t u′ (subst (λ (x : RefT (List ℕ)). Part s x (locateRecord (now s) i)) (sym e′) (e .0)))))))))))))))
 
 module _ {M : Type 1} (𝓤 : URA M) (H : Heap 𝓤) (A : Atoms 𝓤) (W : Given 𝓤 H A) (mem : Memory → SProp 𝓤) (run : Routine → Fun 𝓤) where
   read-walks : (C : Calls 𝓤 H) (Λ : Loops 𝓤 H) → FmC 𝓤 H (W .laws) C → Triple 𝓤 (C #file·read-record) (Reads 𝓤 H A mem run) → Triple 𝓤 (C #file-runs·bytes-of) (Takes 𝓤 H A mem run)

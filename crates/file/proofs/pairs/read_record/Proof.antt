@@ -118,8 +118,8 @@ module _ {M : Type 1} (𝓤 : URA M) (H : Heap 𝓤) (A : Atoms 𝓤) (W : Given
       move ! (2 ∷ 0 ∷ []) $ use2 W (raw (Find 𝓤 H A mem run .pre to-find)) (qed W ((‵ (flft κ q) ⊛ ‵ ftrue) ∷ ‵ (owns (ShrSlice (named 0) κ u8 ∷ usize ∷ []) (s, (i, tt)) at) ∷ []) ∵ join ! $ frame ! $ done !) $ frame ! $ done !
 
   -- of a callee's `ensured`, the clause alone
-  part-said : (r : RefT (List ℕ)) → ent 𝓤 (ensured 𝓤 H A part.ended (part.clauses 𝓤 H A mem run) (κ, tt) (s, (i, tt)) tt r) (fact 𝓤 (Part s r i))
-  part-said r = exE 𝓤 _ (λ ws. snd∗ 𝓤 (sem 𝓤 H A (lasts part.ended (κ, tt) (s, (i, tt)) ws)) (fact 𝓤 (Part s r i)))
+  part-said : (r : RefT (List ℕ)) → ent 𝓤 (ensured 𝓤 H A part.ended (part.clauses 𝓤 H A mem run) (κ, tt) (s, (i, tt)) tt r) (fact 𝓤 (Part s r (locateRecord (now s) i)))
+  part-said r = exE 𝓤 _ (λ ws. snd∗ 𝓤 (sem 𝓤 H A (lasts part.ended (κ, tt) (s, (i, tt)) ws)) (fact 𝓤 (Part s r (locateRecord (now s) i))))
 
   find-said : (t : Place) → ent 𝓤 (ensured 𝓤 H A find.ended (find.clauses 𝓤 H A mem run) (κ, tt) (s, (i, tt)) tt t) (fact 𝓤 (t ≡ locateRecord (now s) i))
   find-said t = exE 𝓤 _ (λ ws. snd∗ 𝓤 (sem 𝓤 H A (lasts find.ended (κ, tt) (s, (i, tt)) ws)) (fact 𝓤 (t ≡ locateRecord (now s) i)))
@@ -142,7 +142,7 @@ module _ {M : Type 1} (𝓤 : URA M) (H : Heap 𝓤) (A : Atoms 𝓤) (W : Given
     shut = qed W (‵ (owns (rows (D .parts)) (intos (D .parts) vd) vss) ∷ []) {P = sem 𝓤 H A (Struct (shape D) .own (intos (D .parts) vd) (w ∷ []))} (
         feqI ! (List Val) (w ∷ []) (w ∷ []) refl $ fjoin ! $ fpack ! (Valss (rows (D .parts))) (within (shape D) (intos (D .parts) vd) (w ∷ [])) vss $ done !)
 
-    exits : Part s r i → t ≡ locateRecord (now s) i → ent 𝓤 (⋆ 𝓤 H A (‵ (S.the-row .own t (u′ ∷ [])) ∷ (‵ (flft κ q) ⊛ ‵ ftrue) ∷ ‵ (Own s v) ∷ ‵ (Own r u) ∷ [])) (Post w)
+    exits : Part s r (locateRecord (now s) i) → t ≡ locateRecord (now s) i → ent 𝓤 (⋆ 𝓤 H A (‵ (S.the-row .own t (u′ ∷ [])) ∷ (‵ (flft κ q) ⊛ ‵ ftrue) ∷ ‵ (Own s v) ∷ ‵ (Own r u) ∷ [])) (Post w)
     exits p e =
         qed W (‵ (S.the-row .own t (u′ ∷ [])) ∷ (‵ (flft κ q) ⊛ ‵ ftrue) ∷ ‵ (Own s v) ∷ ‵ (Own r u) ∷ []) ∵
         suffices ! _ (ends-at 𝓤 H A read.ended stayed (read.clauses 𝓤 H A mem run) W (((κ, tt), (q, tt), tt, (s, (i, tt)), at), tt) w made (tt, (tt, tt)) (tt, (tt, tt))) $ says ! (p, e) $
@@ -159,7 +159,7 @@ module _ {M : Type 1} (𝓤 : URA M) (H : Heap 𝓤) (A : Atoms 𝓤) (W : Given
         move ! (10 ∷ []) $ use1 W (raw (At 𝓤 H A mem run .pre to-part) ⊛ ‵ (Own s v)) goes-part $ split ! $
         calls-at ! fm (At 𝓤 H A mem run) known-part to-part (and-then ! (load ! (from ! (stop !)) (look ! 8 refl)) (and-then ! (load ! (from ! (stop !)) (look ! 6 refl)) (no-more !))) (λ u.
         use1 W (later (some (λ (r : RefT (List ℕ)). ((‵ (flft κ q) ⊛ ‵ ftrue) ⊛ ‵ (Own r u)) ⊛ raw (ensured 𝓤 H A part.ended (part.clauses 𝓤 H A mem run) (κ, tt) (s, (i, tt)) tt r)))) (id⊢ 𝓤 _) $ await ! tt $ pick ! (λ r.
-        split ! $ move ! (1 ∷ []) $ use1 W (raw (fact 𝓤 (Part s r i))) (part-said r) $ heard ! (Part s r i) (λ e. split ! $ move ! (1 ∷ []) $
+        split ! $ move ! (1 ∷ []) $ use1 W (raw (fact 𝓤 (Part s r (locateRecord (now s) i)))) (part-said r) $ heard ! (Part s r (locateRecord (now s) i)) (λ e. split ! $ move ! (1 ∷ []) $
         -- [what the part owns; the token; what s owns; room for _4; …; room for _3; …; _2; …; _1; …; room for _0; …]
         peeks ! (ShrSlice (named 0) κ u8) (Is (ShrSlice (named 0) κ u8)) (shows 𝓤 H A (ShrSlice (named 0) κ u8)) r (u ∷ []) (λ is.
         land ! (from ! (stop !)) (init ! 5 refl (shr-slice-lawful 𝓤 H A W erased κ u8 .typed r (u ∷ []) is .0)) $

@@ -1,7 +1,7 @@
 -- `insertion::loading::load` meets its contract. Assumes nothing.
 use mathlib.Core.Path.{sym, _∙_}
 use native.Mathlib.Omega.{arith}
-use Rattle.insertion.proofs.LoadLaws.{bad-file, few, few-numbers, whole}
+use Rattle.insertion.proofs.LoadLaws.{bad-file, few, few-numbers, numbers-below, whole}
 use borrow.Author.Needs.{needs}
 use Rattle.insertion.proofs.loading.load.Statement.{statement}
 use Rattle.insertion.proofs.loading.load.Tie as tie
@@ -37,7 +37,8 @@ part-insert-in-order-end : tie.Need-part-insert-in-order-end
 part-insert-in-order-end c = omega (arith, few _ _ _ (c .before .file-order .ensures) (c .before .before .record-count .ensures) (sym (c .before .before .before .before .before .check-file .ensures) ∙ c .before .before .before .enum-told .given .1))
 
 insert-in-order-requires : tie.Need-insert-in-order-requires
-insert-in-order-requires c κs = few-numbers _ _ _ (c .before .before .file-order .ensures) (c .before .before .before .record-count .ensures) (sym (c .before .before .before .before .before .before .check-file .ensures) ∙ c .before .before .before .before .enum-told .given .1)
+insert-in-order-requires c κs = let good = sym (c .before .before .before .before .before .before .check-file .ensures) ∙ c .before .before .before .before .enum-told .given .1 in let o = c .before .before .file-order .ensures in let n = c .before .before .before .record-count .ensures in
+    (good, numbers-below _ _ _ o n good, few-numbers _ _ _ o n good)
 
 returns : tie.Need-returns
 returns c = c .not-loaded .ensures ∙ bad-file _ _ (sym (c .before .before .before .before .check-file .ensures) ∙ c .before .before .found .given .1)

@@ -1,11 +1,12 @@
 -- `links::records::link_records` meets its contract. Assumes nothing.
-use mathlib.Core.Path.{_≡_, refl, _∙_}
+use mathlib.Core.Path.{_≡_, refl, sym, _∙_}
 use Prim.Native.Nat.{_-_}
 use native.Mathlib.Omega.{arith}
 use lib.ListN.{length}
-use borrow.Author.Needs.{needs}
+use borrow.Author.Tests.{ltb-true, ltb-false}
 use Rattle.links.specs.Ends.{endState}
-use Rattle.links.proofs.LinkingLaws.{read-part, Linking, begin, finish, bad-record, nodes-stop, edges-stop, again}
+use Rattle.links.proofs.LinkingLaws.{Linking, begin, finish, not-taken, nodes-stop, few-others, edges-stop, again}
+use borrow.Author.Needs.{needs}
 use Rattle.links.proofs.records.link_records.Statement.{statement}
 use Rattle.links.proofs.records.link_records.Tie as tie
 
@@ -27,55 +28,61 @@ shared-slice-read-to-index : tie.Need-shared-slice-read-to-index Inv-loop μ-loo
 shared-slice-read-to-index c = search needs
 
 to-index-requires : tie.Need-to-index-requires Inv-loop μ-loop
-to-index-requires c κs = tt
+to-index-requires c κs = search needs
 
-part-of-requires : tie.Need-part-of-requires Inv-loop μ-loop
-part-of-requires c κs = tt
-
-parse-record-requires : tie.Need-parse-record-requires Inv-loop μ-loop
-parse-record-requires c κs = tt
+parse-at-requires : tie.Need-parse-at-requires Inv-loop μ-loop
+parse-at-requires c κs = search needs
 
 enum-known-parsed : tie.Need-enum-known-parsed Inv-loop μ-loop
 enum-known-parsed c = c .match .keys1
 
-enum-told : tie.Need-enum-told Inv-loop μ-loop
-enum-told c = c .match .keys2
-
 links-stopped-requires : tie.Need-links-stopped-requires Inv-loop μ-loop
-links-stopped-requires c κs = tt
+links-stopped-requires c κs = search needs
 
 returns : tie.Need-returns Inv-loop μ-loop
-returns c = let l = c .before .before .before .before .before .before .before .before in c .links-stopped .ensures ∙ bad-record _ _ _ _ _ _ _ _ _ _ _ _ (l .loop .inv .0) (c .before .before .before .before .before .before .before .loop-test .taken) _ (c .before .before .before .before .before .to-index .ensures) _ (read-part _ _ _ _ _ (c .before .before .before .before .part-of .ensures .bytes) (c .before .before .before .parse-record .ensures) (c .before .enum-told .given .1))
+returns c = c .links-stopped .ensures ∙ not-taken _ _ _ _ _ _ _ _ _ _ _ _ (c .before .before .before .before .before .before .before .before .loop .inv .0) (c .before .before .before .before .before .before .before .loop-test .taken) _ (c .before .before .before .before .before .to-index .ensures) _ (sym (c .before .before .before .before .parse-at .ensures) ∙ c .before .before .parsed .given .1)
+
+enum-known-parsed-2 : tie.Need-enum-known-parsed-2 Inv-loop μ-loop
+enum-known-parsed-2 c = c .match .keys2
 
 links-stopped-requires-2 : tie.Need-links-stopped-requires-2 Inv-loop μ-loop
-links-stopped-requires-2 c κs = tt
+links-stopped-requires-2 c κs = search needs
 
 returns-2 : tie.Need-returns-2 Inv-loop μ-loop
-returns-2 c = let l = c .before .before .before .before .before .before .before .before .before .before in c .links-stopped2 .ensures ∙ nodes-stop _ _ _ _ _ _ _ _ _ _ _ _ (l .loop .inv .0) (c .before .before .before .before .before .before .before .before .before .loop-test .taken) _ (c .before .before .before .before .before .before .before .to-index .ensures) _ (read-part _ _ _ _ _ (c .before .before .before .before .before .before .part-of .ensures .bytes) (c .before .before .before .before .before .parse-record .ensures) (c .before .before .before .parsed .given .1)) (c .before .if1 .taken)
+returns-2 c = c .links-stopped2 .ensures ∙ nodes-stop _ _ _ _ _ _ _ _ _ _ _ _ (c .before .before .before .before .before .before .before .before .before .loop .inv .0) (c .before .before .before .before .before .before .before .before .loop-test .taken) _ (c .before .before .before .before .before .before .to-index .ensures) _ (sym (c .before .before .before .before .before .parse-at .ensures) ∙ c .before .before .before .parsed2 .given .1) (c .before .if1 .taken)
 
-cast-t23 : tie.Need-cast-t23 Inv-loop μ-loop
-cast-t23 c = omega (arith, c .if1 .left)
+cast-t26 : tie.Need-cast-t26 Inv-loop μ-loop
+cast-t26 c = omega (arith, c .if1 .left)
 
-link-record-requires : tie.Need-link-record-requires Inv-loop μ-loop
-link-record-requires c κs = let i = c .before .before .before .before .before .before .before .before .before .before .before .before .before .before .before .before .before .before .loop .inv in let m = i .0 in (c .before .before .before .before .before .before .before .before .before .if1 .left, m .room, m .from-size, m .to-size, i .1, m .first-fits, m .last-fits)
+join-record-requires : tie.Need-join-record-requires Inv-loop μ-loop
+join-record-requires c κs = let i = c .before .before .before .before .before .before .before .before .before .before .before .before .before .before .before .loop .inv in let m = i .0 in (c .before .before .before .before .before .before .before .if1 .left, i .1, m .first-fits, m .last-fits)
+
+edges-pass-requires : tie.Need-edges-pass-requires Inv-loop μ-loop
+edges-pass-requires c κs = (c .before .before .before .before .before .before .before .before .before .before .before .before .before .before .before .before .loop .inv .0 .room, few-others _ _ _ _ _ _ _ _ _ _ _ _ (c .before .before .before .before .before .before .before .before .before .before .before .before .before .before .before .before .loop .inv .0) (c .before .before .before .before .before .before .before .before .before .before .before .before .before .before .before .loop-test .taken) _ (c .before .before .before .before .before .before .before .before .before .before .before .before .before .to-index .ensures) _ (sym (c .before .before .before .before .before .before .before .before .before .before .before .before .parse-at .ensures) ∙ c .before .before .before .before .before .before .before .before .before .before .parsed2 .given .1) _ _ _ _ _ _ (c .join-record .ensures) (c .before .before .before .before .before .before .before .before .if1 .left))
 
 links-stopped-requires-3 : tie.Need-links-stopped-requires-3 Inv-loop μ-loop
-links-stopped-requires-3 c κs = tt
+links-stopped-requires-3 c κs = search needs
 
 returns-3 : tie.Need-returns-3 Inv-loop μ-loop
-returns-3 c = let l = c .before .before .before .before .before .before .before .before .before .before .before .before .before .before .before .before .before .before .before .before .before in c .links-stopped3 .ensures ∙ edges-stop _ _ _ _ _ _ _ _ _ _ _ _ (l .loop .inv .0) (c .before .before .before .before .before .before .before .before .before .before .before .before .before .before .before .before .before .before .before .before .loop-test .taken) _ (c .before .before .before .before .before .before .before .before .before .before .before .before .before .before .before .before .before .before .to-index .ensures) _ (read-part _ _ _ _ _ (c .before .before .before .before .before .before .before .before .before .before .before .before .before .before .before .before .before .part-of .ensures .bytes) (c .before .before .before .before .before .before .before .before .before .before .before .before .before .before .before .before .parse-record .ensures) (c .before .before .before .before .before .before .before .before .before .before .before .before .before .before .parsed .given .1)) _ _ _ _ _ _ _ (c .before .before .link-record .ensures .0) (c .before .before .before .before .before .before .before .before .before .before .before .before .if1 .left) (c .before .if2 .taken)
+returns-3 c = c .links-stopped3 .ensures ∙ edges-stop _ _ _ _ _ _ _ _ _ _ _ _ (c .before .before .before .before .before .before .before .before .before .before .before .before .before .before .before .before .before .before .before .loop .inv .0) (c .before .before .before .before .before .before .before .before .before .before .before .before .before .before .before .before .before .before .loop-test .taken) _ (c .before .before .before .before .before .before .before .before .before .before .before .before .before .before .before .before .to-index .ensures) _ (sym (c .before .before .before .before .before .before .before .before .before .before .before .before .before .before .before .parse-at .ensures) ∙ c .before .before .before .before .before .before .before .before .before .before .before .before .before .parsed2 .given .1) _ _ _ _ _ _ (c .before .before .before .join-record .ensures) (c .before .before .before .before .before .before .before .before .before .before .before .if1 .left) (ltb-true _ _ (sym (c .before .before .edges-pass .ensures) ∙ c .before .if2 .taken))
+
+add-edges-requires : tie.Need-add-edges-requires Inv-loop μ-loop
+add-edges-requires c κs = let m = c .before .before .before .before .before .before .before .before .before .before .before .before .before .before .before .before .before .before .before .before .before .loop .inv .0 in let j = c .before .before .before .before .before .join-record .ensures in (j .few, (ltb-false _ _ (sym (c .before .before .before .before .edges-pass .ensures) ∙ c .before .before .before .if2 .left)), j .size, m .from-size, m .to-size)
+
+add-count : tie.Need-add-count Inv-loop μ-loop
+add-count c = omega (arith, c .before .before .before .before .before .before .join-record .ensures .few, c .before .before .before .before .before .before .before .before .before .before .before .before .before .before .before .before .before .before .before .before .before .before .loop .inv .0 .room)
 
 add-k : tie.Need-add-k Inv-loop μ-loop
-add-k c = omega (arith, c .before .before .before .before .before .before .before .before .before .before .before .if1 .left)
+add-k c = omega (arith, c .before .before .before .before .before .before .before .before .before .before .before .before .before .before .if1 .left)
 
 loop-less : tie.Need-loop-less Inv-loop μ-loop
-loop-less c = omega (arith, c .before .before .before .before .before .before .before .before .before .before .before .before .before .before .before .before .before .before .before .loop-test .taken)
+loop-less c = omega (arith, c .before .before .before .before .before .before .before .before .before .before .before .before .before .before .before .before .before .before .before .before .before .loop-test .taken)
 
 loop-again : tie.Need-loop-again Inv-loop μ-loop
-loop-again c = let l = c .before .before .before .before .before .before .before .before .before .before .before .before .before .before .before .before .before .before .before .before in (again _ _ _ _ _ _ _ _ _ _ _ _ (l .loop .inv .0) (c .before .before .before .before .before .before .before .before .before .before .before .before .before .before .before .before .before .before .before .loop-test .taken) _ (c .before .before .before .before .before .before .before .before .before .before .before .before .before .before .before .before .before .to-index .ensures) _ (read-part _ _ _ _ _ (c .before .before .before .before .before .before .before .before .before .before .before .before .before .before .before .before .part-of .ensures .bytes) (c .before .before .before .before .before .before .before .before .before .before .before .before .before .before .before .parse-record .ensures) (c .before .before .before .before .before .before .before .before .before .before .before .before .before .parsed .given .1)) _ _ _ _ _ _ _ (c .before .link-record .ensures .0) (c .before .before .before .before .before .before .before .before .before .before .before .if1 .left) (c .if2 .left), c .before .link-record .ensures .1)
+loop-again c = (again _ _ _ _ _ _ _ _ _ _ _ _ (c .before .before .before .before .before .before .before .before .before .before .before .before .before .before .before .before .before .before .before .before .before .before .loop .inv .0) (c .before .before .before .before .before .before .before .before .before .before .before .before .before .before .before .before .before .before .before .before .before .loop-test .taken) _ (c .before .before .before .before .before .before .before .before .before .before .before .before .before .before .before .before .before .before .before .to-index .ensures) _ (sym (c .before .before .before .before .before .before .before .before .before .before .before .before .before .before .before .before .before .before .parse-at .ensures) ∙ c .before .before .before .before .before .before .before .before .before .before .before .before .before .before .before .before .parsed2 .given .1) _ _ _ _ _ _ (c .before .before .before .before .before .before .join-record .ensures) (c .before .before .before .before .before .before .before .before .before .before .before .before .before .before .if1 .left) (ltb-false _ _ (sym (c .before .before .before .before .before .edges-pass .ensures) ∙ c .before .before .before .before .if2 .left)) _ _ (c .add-edges .ensures), c .before .before .before .before .before .before .join-record .ensures .size)
 
 links-held-requires : tie.Need-links-held-requires Inv-loop μ-loop
-links-held-requires c κs = tt
+links-held-requires c κs = search needs
 
 returns-4 : tie.Need-returns-4 Inv-loop μ-loop
 returns-4 c = c .links-held .ensures ∙ finish _ _ _ _ _ _ _ _ _ _ _ _ (c .before .before .loop .inv .0) (c .before .loop-test .left)
@@ -90,18 +97,20 @@ link-records-spec =
     mul-to-index
     shared-slice-read-to-index
     to-index-requires
-    part-of-requires
-    parse-record-requires
+    parse-at-requires
     enum-known-parsed
-    enum-told
     links-stopped-requires
     returns
+    enum-known-parsed-2
     links-stopped-requires-2
     returns-2
-    cast-t23
-    link-record-requires
+    cast-t26
+    join-record-requires
+    edges-pass-requires
     links-stopped-requires-3
     returns-3
+    add-edges-requires
+    add-count
     add-k
     loop-less
     loop-again

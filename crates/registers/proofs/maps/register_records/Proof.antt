@@ -1,113 +1,72 @@
 -- `registers::maps::register_records` meets its contract. Assumes nothing.
-use Rattle.registers.specs.RegisterMaps.{registers}
-use Rattle.registers.proofs.MapLaws.{Registering, begin, over, skip, by-record, refused, again, finish}
-use mathlib.Core.Path.{sym, _∙_}
-use Prim.Native.Nat.{_-_}
-use lib.ListN.{length}
+use mathlib.Core.Path.{_∙_}
 use native.Mathlib.Omega.{arith}
+use Rattle.registers.proofs.MapLaws.{accepted-few, maps-refuse, links-refuse, both-accept}
 use borrow.Author.Needs.{needs}
 use Rattle.registers.proofs.maps.register_records.Statement.{statement}
 use Rattle.registers.proofs.maps.register_records.Tie as tie
 
-abbrev Inv-loop : tie.InvT-loop
-Inv-loop file order first-name₀ first-index₀ first-node₀ first-hints₀ last-name₀ last-index₀ last-node₀ last-hints₀ first₀ last₀ k₀ first-name first-index first-node first-hints last-name last-index last-node last-hints first last k =
-    Registering file order k (registers first first-name first-index first-node) (registers last last-name last-index last-node)
+link-records-requires : tie.Need-link-records-requires
+link-records-requires c κs = search needs
 
-abbrev μ-loop : tie.MeasureT-loop
-μ-loop file order first-name₀ first-index₀ first-node₀ first-hints₀ last-name₀ last-index₀ last-node₀ last-hints₀ first₀ last₀ k₀ first-name first-index first-node first-hints last-name last-index last-node last-hints first last k =
-    length order - k
+mul-enter-records : tie.Need-mul-enter-records
+mul-enter-records c = search needs
 
-loop-holds : tie.Need-loop-holds Inv-loop μ-loop
-loop-holds c = begin _ _
+sub-enter-records : tie.Need-sub-enter-records
+sub-enter-records c = search needs
 
-maps-stopped-requires : tie.Need-maps-stopped-requires Inv-loop μ-loop
-maps-stopped-requires c κs = tt
+part-enter-records-start : tie.Need-part-enter-records-start
+part-enter-records-start c = search needs
 
-returns : tie.Need-returns Inv-loop μ-loop
-returns c = c .maps-stopped .ensures ∙ over _ _ _ _ _ (c .before .before .before .loop .inv) (c .before .before .loop-test .taken) (c .before .if1 .taken)
+part-enter-records-end : tie.Need-part-enter-records-end
+part-enter-records-end c = omega (arith, accepted-few _ _ _ (c .link-records .ensures) .0)
 
-mul-to-index : tie.Need-mul-to-index Inv-loop μ-loop
-mul-to-index c = search needs
+enter-records-requires : tie.Need-enter-records-requires
+enter-records-requires c κs = omega (arith, accepted-few _ _ _ (c .before .link-records .ensures) .1)
 
-shared-slice-read-to-index : tie.Need-shared-slice-read-to-index Inv-loop μ-loop
-shared-slice-read-to-index c = search needs
+enum-known-entered : tie.Need-enum-known-entered
+enum-known-entered c = search needs
 
-to-index-requires : tie.Need-to-index-requires Inv-loop μ-loop
-to-index-requires c κs = tt
+records-stopped-requires : tie.Need-records-stopped-requires
+records-stopped-requires c κs = search needs
 
-part-of-requires : tie.Need-part-of-requires Inv-loop μ-loop
-part-of-requires c κs = tt
+returns : tie.Need-returns
+returns c = c .records-stopped .ensures ∙ maps-refuse _ _ _ (c .before .before .before .before .before .before .link-records .ensures) _ (c .before .before .before .before .enter-records .ensures) _ (c .before .before .entered .given .1)
 
-involved-classical-requires : tie.Need-involved-classical-requires Inv-loop μ-loop
-involved-classical-requires c κs = tt
+enum-told : tie.Need-enum-told
+enum-told c = search needs
 
-cast-t24 : tie.Need-cast-t24 Inv-loop μ-loop
-cast-t24 c = omega (arith, c .before .before .before .before .if1 .left)
+enum-known-answer : tie.Need-enum-known-answer
+enum-known-answer c = search needs
 
-add-k : tie.Need-add-k Inv-loop μ-loop
-add-k c = omega (arith, c .before .before .before .before .if1 .left)
+records-stopped-requires-2 : tie.Need-records-stopped-requires-2
+records-stopped-requires-2 c κs = search needs
 
-enum-told : tie.Need-enum-told Inv-loop μ-loop
-enum-told c = c .match .keys1
+returns-2 : tie.Need-returns-2
+returns-2 c = c .records-stopped2 .ensures ∙ links-refuse _ _ _ (c .before .before .before .before .before .before .before .before .link-records .ensures) _ (c .before .before .before .before .before .before .enter-records .ensures) (c .before .before .before .before .enum-told .given .1) _ (c .before .before .answer .given .1)
 
-loop-less : tie.Need-loop-less Inv-loop μ-loop
-loop-less c = omega (arith, c .before .before .before .before .before .before .before .loop-test .taken)
+enum-told-2 : tie.Need-enum-told-2
+enum-told-2 c = search needs
 
-loop-again : tie.Need-loop-again Inv-loop μ-loop
-loop-again c = skip _ _ _ _ _ (c .before .before .before .before .before .before .before .before .loop .inv) (c .before .before .before .before .before .before .before .loop-test .taken) (c .before .before .before .before .before .before .if1 .left) _ (c .before .before .before .before .to-index .ensures) _ (c .before .before .before .part-of .ensures .bytes) _ (c .before .before .involved-classical .ensures) (c .enum-told .given .1)
-
-is-front-requires : tie.Need-is-front-requires Inv-loop μ-loop
-is-front-requires c κs = tt
-
-enter-record-requires : tie.Need-enter-record-requires Inv-loop μ-loop
-enter-record-requires c κs = let i = c .before .before .before .before .before .before .before .before .before .before .before .before .before .before .before .before .loop .inv in (i .first-fits, i .last-fits)
-
-maps-pass-requires : tie.Need-maps-pass-requires Inv-loop μ-loop
-maps-pass-requires c κs = tt
-
-maps-stopped-requires-2 : tie.Need-maps-stopped-requires-2 Inv-loop μ-loop
-maps-stopped-requires-2 c κs = tt
-
-returns-2 : tie.Need-returns-2 Inv-loop μ-loop
-returns-2 c = c .maps-stopped2 .ensures ∙ refused _ _ _ _ _ (c .before .before .before .before .before .before .before .before .before .before .before .before .before .before .before .before .before .before .before .before .loop .inv) (c .before .before .before .before .before .before .before .before .before .before .before .before .before .before .before .before .before .before .before .loop-test .taken) (c .before .before .before .before .before .before .before .before .before .before .before .before .before .before .before .before .before .before .if1 .left) _ (c .before .before .before .before .before .before .before .before .before .before .before .before .before .before .before .before .to-index .ensures) _ (c .before .before .before .before .before .before .before .before .before .before .before .before .before .before .before .part-of .ensures .bytes) _ _ (by-record _ _ _ _ _ _ _ _ (c .before .before .before .before .before .before .before .before .before .before .before .before .is-front .ensures) (c .before .before .before .before .before .before .before .before .before .before .before .before .before .before .involved-classical .ensures) (c .before .before .before .enter-record .ensures)) (sym (c .before .before .maps-pass .ensures) ∙ c .before .if2 .taken)
-
-loop-less-2 : tie.Need-loop-less-2 Inv-loop μ-loop
-loop-less-2 c = omega (arith, c .before .before .before .before .before .before .before .before .before .before .before .before .before .before .before .before .before .before .loop-test .taken)
-
-loop-again-2 : tie.Need-loop-again-2 Inv-loop μ-loop
-loop-again-2 c = again _ _ _ _ _ (c .before .before .before .before .before .before .before .before .before .before .before .before .before .before .before .before .before .before .before .loop .inv) (c .before .before .before .before .before .before .before .before .before .before .before .before .before .before .before .before .before .before .loop-test .taken) (c .before .before .before .before .before .before .before .before .before .before .before .before .before .before .before .before .before .if1 .left) _ (c .before .before .before .before .before .before .before .before .before .before .before .before .before .before .before .to-index .ensures) _ (c .before .before .before .before .before .before .before .before .before .before .before .before .before .before .part-of .ensures .bytes) _ _ (by-record _ _ _ _ _ _ _ _ (c .before .before .before .before .before .before .before .before .before .before .before .is-front .ensures) (c .before .before .before .before .before .before .before .before .before .before .before .before .before .involved-classical .ensures) (c .before .before .enter-record .ensures)) (sym (c .before .maps-pass .ensures) ∙ c .if2 .left)
-
-maps-held-requires : tie.Need-maps-held-requires Inv-loop μ-loop
-maps-held-requires c κs = tt
-
-returns-3 : tie.Need-returns-3 Inv-loop μ-loop
-returns-3 c = c .maps-held .ensures ∙ finish _ _ _ _ _ (c .before .before .loop .inv) (c .before .loop-test .left)
+returns-3 : tie.Need-returns-3
+returns-3 c = both-accept _ _ _ (c .before .before .before .before .before .before .link-records .ensures) _ (c .before .before .before .before .enter-records .ensures) (c .before .before .enum-told .given .1) (c .enum-told2 .given .1)
 
 pub register-records-spec : {M : Type 1} → statement M
 register-records-spec =
     tie.close
     (tie.spec
-    Inv-loop
-    μ-loop
-    loop-holds
-    maps-stopped-requires
+    link-records-requires
+    mul-enter-records
+    sub-enter-records
+    part-enter-records-start
+    part-enter-records-end
+    enter-records-requires
+    enum-known-entered
+    records-stopped-requires
     returns
-    mul-to-index
-    shared-slice-read-to-index
-    to-index-requires
-    part-of-requires
-    involved-classical-requires
-    cast-t24
-    add-k
     enum-told
-    loop-less
-    loop-again
-    is-front-requires
-    enter-record-requires
-    maps-pass-requires
-    maps-stopped-requires-2
+    enum-known-answer
+    records-stopped-requires-2
     returns-2
-    loop-less-2
-    loop-again-2
-    maps-held-requires
+    enum-told-2
     returns-3)
