@@ -5,6 +5,7 @@ mod checks;
 mod circuits;
 mod differences;
 mod given;
+mod layout;
 mod plain;
 mod reading;
 mod replay;
@@ -13,6 +14,7 @@ mod sawhekonu;
 mod views;
 
 fn main() {
+    layout::check();
     let words: Vec<String> = std::env::args().skip(1).collect();
     let number = |usual| words.get(1).map_or(usual, |w| w.parse().expect("a number"));
     match words.first().map(String::as_str) {

@@ -1,6 +1,7 @@
-//! A safe wrapper over the static library of crate `host`. The structs are declared again as `#[repr(C)]`; slices cross as pointer and length. The
-//! library's functions demand nothing of their arguments, so every wrapper here is safe on any value, with one exception: a `bool` of Rust is 0 or 1,
-//! so the marks are `bool` here too, and no other byte can be handed over.
+//! A safe wrapper over the static library of crate `host`. The structs are those of include/sawhekonu.h, declared again as `#[repr(C)]` (layout.rs
+//! holds them against it); slices cross as pointer and length. The library's functions demand nothing of their arguments, so every wrapper here is safe
+//! on any value. A mark is a byte there and a `bool` here: what the library returns is 0 or 1, and no other byte can be handed over, so that bytes
+//! over 1 are examples/host.c's to try.
 
 #[repr(C)]
 #[derive(Clone, Copy)]
@@ -104,7 +105,7 @@ mod library {
             dag: CircuitDag,
             executed: *const u16,
             executed_length: usize,
-            node: u16,
+            node: usize,
             buffer: *mut u16,
             length: usize,
         ) -> Answer;
@@ -112,18 +113,18 @@ mod library {
             dag: CircuitDag,
             executed: *const u16,
             executed_length: usize,
-            node: u16,
+            node: usize,
             buffer: *mut u16,
             length: usize,
         ) -> Answer;
-        pub fn sawhekonu_successors(dag: CircuitDag, node: u16, buffer: *mut u16, length: usize) -> Answer;
+        pub fn sawhekonu_successors(dag: CircuitDag, node: usize, buffer: *mut u16, length: usize) -> Answer;
         pub fn sawhekonu_new_front_layer(
             dag: CircuitDag,
             executed: *const u16,
             executed_length: usize,
             layer: *const u16,
             layer_length: usize,
-            node: u16,
+            node: usize,
             buffer: *mut u16,
             length: usize,
         ) -> Answer;
@@ -159,18 +160,18 @@ impl CircuitDag {
 
     pub fn execution_blocked(&self, executed: &[u16], node: u16, buffer: &mut [u16]) -> Answer {
         unsafe {
-            library::sawhekonu_execution_blocked(*self, executed.as_ptr(), executed.len(), node, buffer.as_mut_ptr(), buffer.len())
+            library::sawhekonu_execution_blocked(*self, executed.as_ptr(), executed.len(), usize::from(node), buffer.as_mut_ptr(), buffer.len())
         }
     }
 
     pub fn blocking_predecessors(&self, executed: &[u16], node: u16, buffer: &mut [u16]) -> Answer {
         unsafe {
-            library::sawhekonu_blocking_predecessors(*self, executed.as_ptr(), executed.len(), node, buffer.as_mut_ptr(), buffer.len())
+            library::sawhekonu_blocking_predecessors(*self, executed.as_ptr(), executed.len(), usize::from(node), buffer.as_mut_ptr(), buffer.len())
         }
     }
 
     pub fn successors(&self, node: u16, buffer: &mut [u16]) -> Answer {
-        unsafe { library::sawhekonu_successors(*self, node, buffer.as_mut_ptr(), buffer.len()) }
+        unsafe { library::sawhekonu_successors(*self, usize::from(node), buffer.as_mut_ptr(), buffer.len()) }
     }
 
     pub fn new_front_layer(&self, executed: &[u16], layer: &[u16], node: u16, buffer: &mut [u16]) -> Answer {
@@ -181,7 +182,7 @@ impl CircuitDag {
                 executed.len(),
                 layer.as_ptr(),
                 layer.len(),
-                node,
+                usize::from(node),
                 buffer.as_mut_ptr(),
                 buffer.len(),
             )
