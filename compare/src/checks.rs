@@ -85,7 +85,7 @@ pub fn circuit(records: &[Record], seed: u64, counts: &mut Counts) -> Result<(),
     for (i, part) in parts.iter().enumerate() {
         let expected = reading.insert(part, i);
         if expected.is_ok() {
-            given::insert(&mut theirs, part);
+            same("the node number, original and reading", given::insert(&mut theirs, part), expected.ok())?;
         } else if first_refusal.is_none() {
             first_refusal = expected.err();
         }
@@ -181,7 +181,10 @@ fn walk(
         same("block numbers", &buffer[..n], &expected[..])?;
         same("whole_walk's buffer", buffer[n..].iter().all(|&x| x == OLD), true)?;
     }
-    counts.add("walks");
+    let chain = reading.chain();
+    let length = some_length(random, chain.len());
+    answered("chain", &small(&chain), length, &mut |b| ours.chain(b))?;
+    counts.add("walks and chains, of each");
     let mut state = Walk::new();
     for number in 0..=blocks.min(8) {
         let mut block = [OLD; 512];
@@ -418,6 +421,17 @@ fn same_outcome(what: &str, ours: &GraphAnswer, expected: Result<Graph, Refusal>
     same(what, &views::ours(&ours.graph)?, &graph)
 }
 
+/// Where record i of a file stands.
+fn located(file: &[u8], i: usize) -> Result<(), String> {
+    let found = sawhekonu::locate_record(file, i);
+    let (answer, part) = match reading::parts(file) {
+        Err(r) => (refused(r), None),
+        Ok(parts) => parts.get(i).map_or((refused((8, None)), None), |p| (accepted(0), Some(*p))),
+    };
+    same("locate_record", found.answer, answer)?;
+    same("the record located", part.unwrap_or_default(), &file[found.offset..found.offset + found.length])
+}
+
 /// A file with damage, in loading and in conversion, against the reading.
 pub fn damaged(records: &[Record], seed: u64, counts: &mut Counts) -> Result<(), String> {
     let mut random = Random::new(seed ^ 0xDA3A);
@@ -441,6 +455,7 @@ pub fn damaged(records: &[Record], seed: u64, counts: &mut Counts) -> Result<(),
         Err(_) => "damaged files: refused 5 to 7",
     });
     let at = |e: String| format!("{e}; file {file:?}");
+    located(&file, random.below(records.len() + 2)).map_err(at)?;
     same_outcome("load of a damaged file", &sawhekonu::load(&file), expected).map_err(at)?;
     same_outcome("conversion of a damaged file", &sawhekonu::from_circuit(&file), Graph::from_circuit(&file)).map_err(at)
 }
@@ -525,6 +540,7 @@ pub fn damaged_graph(records: &[Record], seed: u64, counts: &mut Counts) -> Resu
     refuses("new_front_layer, 11", 11, &mut |b| g.new_front_layer(&[], &[1], v, b))?;
     refuses("to_circuit, 11", 11, &mut |b| g.to_circuit(b))?;
     refuses("whole_walk, 11", 11, &mut |b| g.whole_walk(b))?;
+    refuses("chain, 11", 11, &mut |b| g.chain(b))?;
     let walk = Walk { current: [true; 512], executed: [false; 512] };
     refuses("next, 11", 11, &mut |b| g.next(&walk, b).answer)?;
     same("next, 11: the walk", g.next(&walk, &mut []).walk == walk, true)?;
@@ -559,6 +575,8 @@ fn handed_in(g: &CircuitDag, random: &mut Random) -> Result<(), String> {
     let mut buffer = [OLD; 512];
     same("whole_walk of a handed-in graph", g.whole_walk(&mut buffer), accepted(count))?;
     same("its numbers", &buffer[..n], &numbers[..])?;
+    let chain = reading.chain();
+    answered("chain of a handed-in graph", &small(&chain), chain.len(), &mut |b| g.chain(b))?;
     answered("to_circuit of a handed-in graph", &small(&reading.to_circuit()), n, &mut |b| g.to_circuit(b))?;
     if n > 0 {
         let v = random.below(n);

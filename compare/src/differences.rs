@@ -36,7 +36,7 @@ pub fn main() {
         let step = ours.next(&walk, &mut buffer);
         format!("{:?}, the walk as it was: {}", step.answer, step.walk == walk)
     });
-    show("the same", "all blocks", "does not end".to_string(), format!("{:?}", ours.whole_walk(&mut buffer)));
+    show("the same", "all blocks; of the original the first 100,000", attempt(|| format!("{} steps, and on", theirs.parallel_blocks().take(100_000).count())), format!("{:?}", ours.whole_walk(&mut buffer)));
 
     let records: Vec<Record> = [front(1), gate(2), front(4)].iter().enumerate().map(|(i, r)| Record { label: i as u16, ..r.clone() }).collect();
     let (theirs, ours) = both(&records);
@@ -51,9 +51,9 @@ pub fn main() {
     show("the same", "new_front_layer, layer 7, node 7", attempt(|| theirs.new_front_layer(&[], &[7], &7)), format!("{:?}", ours.new_front_layer(&[], &[7], 7, &mut buffer)));
     show("the same", "new_front_layer, layer 0, node 1", attempt(|| theirs.new_front_layer(&[], &[0], &1)), format!("{:?}", ours.new_front_layer(&[], &[0], 1, &mut buffer)));
 
-    let full = sawhekonu::load(&file_of(&parts_of(&vec![gate(1); 512]))).graph;
+    let (mut theirs, full) = both(&vec![gate(1); 512]);
     let last = full.insert(&gate(1).bytes()).answer;
-    show("513 times B{0}", "the last insertion", "Some(512)".to_string(), format!("{last:?}"));
+    show("513 times B{0}", "the last insertion", attempt(|| given::insert(&mut theirs, &gate(1).bytes())), format!("{last:?}"));
     let mut edges = crate::circuits::layers();
     edges.push(gate(1));
     let file = file_of(&parts_of(&edges));
@@ -62,6 +62,12 @@ pub fn main() {
     let file = file_of(&parts_of(&[long]));
     show("a definition of 257", "load", format!("{} entries", given::load(&file).last_operation_involving_classical().len()), format!("{:?}", sawhekonu::load(&file).answer));
     let file = file_of(&parts_of(&[front(1)]));
-    show("F{0}", "from a circuit", "a circuit has no ends".to_string(), format!("{:?}", sawhekonu::from_circuit(&file).answer));
+    let mut circuit = original::Circuit::new();
+    circuit.add_operation(given::operation_of(&front(1).bytes()));
+    let nodes = |c| format!("a circuit has no ends: {} node", original::node_count(&original::CircuitDag::from(c)));
+    show("F{0}", "from a circuit", attempt(|| nodes(circuit)), format!("{:?}", sawhekonu::from_circuit(&file).answer));
+    let (theirs, ours) = both(&[Record { kind: 5, ..gate(1) }]);
+    let view = |dump: Result<crate::reading::Dump, String>| format!("{:?}", dump.map(|d| (d.nodes, d.first.block, d.last.node)));
+    show("B kind 5 {0}, the stand-in with its qubit", "load: nodes, first block, last map", view(crate::views::theirs(&theirs)), view(crate::views::ours(&ours).map(|g| g.dump)));
     set_hook(hook);
 }

@@ -40,13 +40,13 @@ pub fn operation_of(part: &[u8]) -> Operation {
     }
 }
 
-/// One record of a file that keeps its rules, at the end that its first byte names.
-pub fn insert(dag: &mut CircuitDag, part: &[u8]) {
+/// One record of a file that keeps its rules, at the end that its first byte names; the node number that the original answers.
+pub fn insert(dag: &mut CircuitDag, part: &[u8]) -> Option<usize> {
     let operation = operation_of(part);
     if part[0] == 0 {
-        dag.add_to_back(operation);
+        dag.add_to_back(operation)
     } else {
-        dag.add_to_front(operation);
+        dag.add_to_front(operation)
     }
 }
 

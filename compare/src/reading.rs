@@ -267,6 +267,18 @@ impl Graph {
         }
         (numbers, count)
     }
+
+    /// From the smallest node of the last block down, to the smallest direct predecessor one block lower.
+    pub fn chain(&self) -> Vec<usize> {
+        let (numbers, count) = self.whole_walk();
+        let in_block = |v: &usize, k: usize| numbers[*v] as usize == k;
+        let mut chain: Vec<usize> = (0..self.size()).find(|v| count > 0 && in_block(v, count - 1)).into_iter().collect();
+        for k in (1..count).rev() {
+            let below = self.predecessors(chain[chain.len() - 1]).into_iter().find(|u| in_block(u, k - 1));
+            chain.push(below.expect("a predecessor one block lower"));
+        }
+        chain
+    }
 }
 
 /// near is the end of the insertion, far the other.

@@ -87,6 +87,14 @@ pub struct StepAnswer {
     pub walk: Walk,
 }
 
+#[repr(C)]
+#[derive(Clone, Copy, PartialEq, Eq, Debug)]
+pub struct PlaceAnswer {
+    pub answer: Answer,
+    pub offset: usize,
+    pub length: usize,
+}
+
 /// Where a refusal returns its number alone, and where a step says None.
 pub const NONE: usize = 65535;
 
@@ -130,6 +138,8 @@ mod library {
         ) -> Answer;
         pub fn sawhekonu_next(dag: CircuitDag, state: Walk, buffer: *mut u16, length: usize) -> StepAnswer;
         pub fn sawhekonu_whole_walk(dag: CircuitDag, buffer: *mut u16, length: usize) -> Answer;
+        pub fn sawhekonu_chain(dag: CircuitDag, buffer: *mut u16, length: usize) -> Answer;
+        pub fn sawhekonu_locate_record(file: *const u8, length: usize, i: usize) -> PlaceAnswer;
     }
 }
 
@@ -196,6 +206,10 @@ impl CircuitDag {
     pub fn whole_walk(&self, buffer: &mut [u16]) -> Answer {
         unsafe { library::sawhekonu_whole_walk(*self, buffer.as_mut_ptr(), buffer.len()) }
     }
+
+    pub fn chain(&self, buffer: &mut [u16]) -> Answer {
+        unsafe { library::sawhekonu_chain(*self, buffer.as_mut_ptr(), buffer.len()) }
+    }
 }
 
 pub fn load(file: &[u8]) -> GraphAnswer {
@@ -204,4 +218,8 @@ pub fn load(file: &[u8]) -> GraphAnswer {
 
 pub fn from_circuit(file: &[u8]) -> GraphAnswer {
     unsafe { library::sawhekonu_from_circuit(file.as_ptr(), file.len()) }
+}
+
+pub fn locate_record(file: &[u8], i: usize) -> PlaceAnswer {
+    unsafe { library::sawhekonu_locate_record(file.as_ptr(), file.len(), i) }
 }
