@@ -1,22 +1,22 @@
 -- A record: what its rule says, its exact length, and the answers of the parser's functions. Assumes nothing.
-use mathlib.Core.Path.{_≡_, refl, sym, ap, _∙_}
+use mathlib.Core.Path.{_≡_, refl, sym, ap}
 use mathlib.Core.Bool.{Bool, true, false, cond, _&&_}
 use mathlib.Core.List.{List}
 use mathlib.Core.Logic.{⊎-elim, _⊎_}
 use Prim.Native.Nat.{ℕ, suc, _+_, _*_, _-_, _<_, _≤_}
 use native.Mathlib.Omega.{arith}
 use lib.Dec.{leb, eqb}
-use lib.ListN.{length, getD, take, drop, List·getD-eq-default}
+use lib.ListN.{length, getD, List·getD-eq-default}
 use borrow.Author.Tests.{eqb-true, eqb-false, ne-eqb, le-leb, lt-leb, leb-true}
 use Rattle.file.proofs.BoolLaws.{bool-cases, clash-bool, both-true}
-use Rattle.file.specs.Pairs.{numberAt, countOf, offsetOf, lengthOf, checkFile, pairPlace, recordAt}
+use Rattle.file.specs.Pairs.{numberAt, countOf, checkFile, pairPlace, recordAt}
 use Rattle.file.specs.Records
 use Rattle.file.proofs.PairLaws.{field-past, pair-there}
 use Rattle.file.specs.declared.Refusal.{Refusal}
 use Rattle.file.specs.declared.Refusal.the-variants.{BadRecord}
 use Rattle.file.specs.declared.FileCheck.the-variants.{Sound}
 use Rattle.file.specs.declared.Place.{Place}
-use Rattle.file.specs.declared.Place.the-variants.{At, Refused as NotThere}
+use Rattle.file.specs.declared.Place.the-variants.{Refused as NotThere}
 use Rattle.file.specs.declared.Record.{Record}
 use Rattle.file.specs.declared.InvolvedQubits.{InvolvedQubits}
 use Rattle.file.specs.declared.InvolvedClassical.{InvolvedClassical}
@@ -100,44 +100,26 @@ not-parsed s x e = told (Records.recordRule s) e
     told true e = let z : _≡_ {A = ℕ} 0 1 = cc in absurd (omega arith)
     told false e = refl
 
--- record i of a file: where its own pair does not locate it ..
-pub not-located : (s : List ℕ) (i : ℕ) (x : Refusal) → pairPlace s i ≡ NotThere x → Refused x ≡ Records.parseAt s i
-unfolding Records.parseAt
-not-located s i x e = rw e refl
-
--- .. and where it does
-module _ (s : List ℕ) (i o l : ℕ) (place : pairPlace s i ≡ At o l) where
-  pub at-pair : Records.parseAt s i ≡ cond (Records.recordRule (recordAt s i)) (Parses (Records.recordOf (recordAt s i))) (Refused (BadRecord i))
+-- record i of a file, by the parser's answer on the part that its pair gives
+module _ (s : List ℕ) (i : ℕ) where
+  pub taken : (r : Record) → Records.parseRecord (recordAt s i) ≡ Parses r → Records.parseAt s i ≡ Parses r
   unfolding Records.parseAt
-  at-pair = ap (λ (x : Place). Records.parseFrom x s i) place
+  taken r e = let p = parsed (recordAt s i) r e in rw (p .0, p .1) refl
 
-  same-part : take (o + l - o) (drop o s) ≡ recordAt s i
-  same-part = let z : o + l - o ≡ l = omega arith in rw (z, place) refl
+  pub not-taken : (x : Refusal) → Records.parseRecord (recordAt s i) ≡ Refused x → Records.parseAt s i ≡ Refused (Records.refusalFrom (pairPlace s i) i)
+  unfolding Records.parseAt
+  not-taken x e = rw (not-parsed (recordAt s i) x e) refl
 
-  pub broken-at : (x : Refusal) → Records.parseRecord (take (o + l - o) (drop o s)) ≡ Refused x → Refused (BadRecord i) ≡ Records.parseAt s i
-  broken-at x e = rw (at-pair, not-parsed (recordAt s i) x (rw same-part at e)) refl
-
-  pub whole-at : (r : Record) → Records.parseRecord (take (o + l - o) (drop o s)) ≡ Parses r → Parses r ≡ Records.parseAt s i
-  whole-at r e = let p = parsed (recordAt s i) r (rw same-part at e) in rw (at-pair, p .0, p .1) refl
-
--- a record of a file that is taken keeps its rule, and says what its bytes say
-pub taken : (s : List ℕ) (i : ℕ) (r : Record) → Records.parseAt s i ≡ Parses r → (Records.recordRule (recordAt s i) ≡ true) × (r ≡ Records.recordOf (recordAt s i))
-unfolding Records.parseAt
-taken s i r = by-place (pairPlace s i) refl
-  where
-    by-rule : (b : Bool) → Records.recordRule (recordAt s i) ≡ b → cond b (Parses (Records.recordOf (recordAt s i))) (Refused (BadRecord i)) ≡ Parses r
-        → (Records.recordRule (recordAt s i) ≡ true) × (r ≡ Records.recordOf (recordAt s i))
-    by-rule true h e = (h, cc)
-    by-rule false h e = let z : _≡_ {A = ℕ} 0 1 = cc in absurd (omega arith)
-
-    by-place : (x : Place) → pairPlace s i ≡ x → Records.parseAt s i ≡ Parses r → (Records.recordRule (recordAt s i) ≡ true) × (r ≡ Records.recordOf (recordAt s i))
-    by-place (NotThere x) h e = let f : Refused x ≡ Parses r = not-located s i x h ∙ e in let z : _≡_ {A = ℕ} 0 1 = cc in absurd (omega arith)
-    by-place (At o l) h e = by-rule (Records.recordRule (recordAt s i)) refl (sym (at-pair s i o l h) ∙ e)
+  -- a record that is taken stands in the file
+  pub taken-there : (r : Record) → Records.parseAt s i ≡ Parses r → (x : Refusal) → pairPlace s i ≡ NotThere x → ⊥
+  unfolding Records.parseAt Records.recordRule
+  taken-there r e x h = let z : _≡_ {A = ℕ} 0 1 = cc in omega arith
 
 -- on a file that passed the check, a record below the count is refused for its own bytes alone
 pub checked-at : (s : List ℕ) (i : ℕ) → checkFile s ≡ Sound → i < countOf s
     → Records.parseAt s i ≡ cond (Records.recordRule (recordAt s i)) (Parses (Records.recordOf (recordAt s i))) (Refused (BadRecord i))
-checked-at s i e l = at-pair s i (offsetOf s i) (lengthOf s i) (pair-there s i e l)
+unfolding Records.parseAt
+checked-at s i e l = ap (λ (c : Refusal). cond (Records.recordRule (recordAt s i)) (Parses (Records.recordOf (recordAt s i))) (Refused c)) (ap (λ (x : Place). Records.refusalFrom x i) (pair-there s i e l))
 
 -- the form's number of what a record involves is the record's qubit form
 pub form-kept : (s : List ℕ) → Records.recordRule s ≡ true → Records.formOf (Records.qubitsOf s) ≡ Records.qubitForm s

@@ -5,6 +5,7 @@ use Prim.Native.Nat.{ℕ, zero, suc, _+_, _*_, _-_}
 use lib.Dec.{ltb, leb, eqb}
 use lib.ListN.{length, getD}
 use Rattle.file.specs.Pairs.{numberAt, pairPlace, recordAt}
+use Rattle.file.specs.declared.Refusal.{Refusal}
 use Rattle.file.specs.declared.Refusal.the-variants.{BadRecord}
 use Rattle.file.specs.declared.Place.{Place}
 use Rattle.file.specs.declared.Place.the-variants.{At, Refused as NotThere}
@@ -154,11 +155,12 @@ recordOf s = record { front = front s; kind = kind s; label = label s; qubits = 
 unfoldable pub parseRecord : List ℕ → Parsed
 parseRecord s = cond (recordRule s) (Parses (recordOf s)) (Refused (BadRecord 0))
 
--- "a record breaks its rule | 4 | number, record": record i of the file, where it stands at this place
-abbrev pub parseFrom : Place → List ℕ → ℕ → Parsed
-parseFrom (NotThere r) s i = Refused r
-parseFrom (At o l) s i = cond (recordRule (recordAt s i)) (Parses (recordOf (recordAt s i))) (Refused (BadRecord i))
+-- why record i of the file is not taken, by where it stands: 2, 1, 8, 3, else "a record breaks its rule | 4 | number,
+-- record"
+abbrev pub refusalFrom : Place → ℕ → Refusal
+refusalFrom (NotThere r) i = r
+refusalFrom (At o l) i = BadRecord i
 
--- .. by its own pair: 2, 1, 8, 3 where the file has it not, then 4
+-- record i of the file by its own pair: one that the file has not is nothing, which breaks the rule
 unfoldable pub parseAt : List ℕ → ℕ → Parsed
-parseAt s i = parseFrom (pairPlace s i) s i
+parseAt s i = cond (recordRule (recordAt s i)) (Parses (recordOf (recordAt s i))) (Refused (refusalFrom (pairPlace s i) i))

@@ -6,6 +6,7 @@ mod refusals;
 
 pub use pairs::byte_at;
 pub use pairs::check_file;
+pub use pairs::locate_pair;
 pub use pairs::locate_record;
 pub use pairs::part_of;
 pub use pairs::read_record;
@@ -14,7 +15,6 @@ pub use pairs::record_count;
 pub use pairs::to_index;
 pub use records::involved_classical;
 pub use records::is_front;
-pub use records::parse_at;
 pub use records::parse_record;
 pub use records::qubit_form;
 pub use records::record_label;

@@ -91,9 +91,9 @@ pub fn check_file(file: &[u8]) -> FileCheck
     }
 }
 
-// Where record i stands by the header and its own pair, in constant time: 2, 1, then 8, and 3 where the pair leads out of the file. A load checks
-// the pairs once and takes each record by this.
-pub(crate) fn locate_pair(file: &[u8], i: usize) -> Place
+// Where record i stands by the header and its own pair, in constant time: 2, 1, then 8, and 3 where the pair leads out
+// of the file. A load checks the pairs once and takes each record by this.
+pub fn locate_pair(file: &[u8], i: usize) -> Place
     ensures { λ r. ⌜ r ≡ pairPlace (now (file .entry)) i ⌝ }
 {
     let size = file.len();

@@ -5,17 +5,15 @@ ghost use Prim.Native.Nat.{_+_, _*_, _-_, _<_, _≤_};
 ghost use lib.Dec.{leb};
 ghost use lib.ListN.{length};
 ghost use Rattle.file.specs.Pairs.{numberAt};
-ghost use Rattle.file.specs.Records.{definitionRule, qubitRule, entryBefore, ascendFrom, setRule, tailRule, parseRecord, parseAt, qubitsBy, classicalOf, keyAt, front, label, formOf, registerFormOf};
+ghost use Rattle.file.specs.Records.{definitionRule, qubitRule, entryBefore, ascendFrom, setRule, tailRule, parseRecord, qubitsBy, classicalOf, keyAt, front, label, formOf, registerFormOf};
 use crate::InvolvedClassical;
 use crate::InvolvedQubits;
 use crate::Parsed;
-use crate::Place;
 use crate::Record;
 use crate::Refusal;
 use crate::RegisterKey;
 use crate::pairs::byte_at;
 use crate::pairs::field_at;
-use crate::pairs::locate_pair;
 use crate::pairs::read_u16;
 use crate::pairs::wide;
 
@@ -191,23 +189,6 @@ pub fn parse_record(part: &[u8]) -> Parsed
         qubits: involved_qubits(form, mask),
         classical: involved_classical(part),
     })
-}
-
-// Record i of a file by the header and its own pair: 2, 1, 8, 3, then 4 with the record's number.
-pub fn parse_at(file: &[u8], i: usize) -> Parsed
-    ensures { λ r. ⌜ r ≡ parseAt (now (file .entry)) i ⌝ }
-{
-    let place = locate_pair(file, i);
-    match place {
-        Place::Refused(r) => Parsed::Refused(r),
-        Place::At { offset, length } => {
-            let parsed = parse_record(&file[offset..offset + length]);
-            match parsed {
-                Parsed::Refused(_) => Parsed::Refused(Refusal::BadRecord(i)),
-                Parsed::Record(r) => Parsed::Record(r),
-            }
-        }
-    }
 }
 
 // Whether a record is for the front, of any bytes: byte 0 alone says so.

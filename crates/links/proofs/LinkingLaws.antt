@@ -11,7 +11,10 @@ use lib.ListN.{length, getD, drop, replicate, length-take, length-replicate, dro
 use lib.Seq.{drop-cons}
 use borrow.Author.Tests.{lt-ltb, le-ltb, lt-leb, le-leb, ltb-true, leb-true, leb-false}
 use Rattle.file.specs.Lists.{anyOf, allOf}
-use Rattle.file.specs.Records.{parseAt}
+use Rattle.file.specs.Pairs.{pairPlace, recordAt}
+use Rattle.file.specs.Records.{parseRecord, parseAt, refusalFrom}
+use Rattle.file.proofs.RecordLaws
+use Rattle.file.proofs.RecordLaws.{taken}
 use Rattle.file.specs.declared.InvolvedQubits.{InvolvedQubits}
 use Rattle.file.specs.declared.Record.{Record}
 use Rattle.file.specs.declared.Parsed.{Parsed}
@@ -162,6 +165,17 @@ module _ (f : Bool) (q : InvolvedQubits) (v : NodeIndex) (es : Edges) (first las
     node-grows h from to e = node-done f q v es first last fit _ (grows 0 f q (v .0) es first last small s fn ln fb lb others lent h from to e) refl
 
 -- ---- `link_records`
+
+-- record i of the file, by what the part that its pair gives is read as
+module _ (file part : List ℕ) (i : ℕ) (x : Parsed) (e : part ≡ recordAt file i) (p : x ≡ parseRecord part) where
+  read : x ≡ parseRecord (recordAt file i)
+  read = p ∙ ap parseRecord e
+
+  pub read-taken : (r : Record) → x ≡ Parses r → parseAt file i ≡ Parses r
+  read-taken r q = taken file i r (sym read ∙ q)
+
+  pub read-refused : (c : Refusal) → x ≡ NotTaken c → (d : Refusal) → d ≡ refusalFrom (pairPlace file i) i → parseAt file i ≡ NotTaken d
+  read-refused c q d h = rw h (RecordLaws.not-taken file i c (sym read ∙ q))
 
 -- the records that are left, after one that gives y
 abbrev onward : List ℕ → List ℕ → LinkedRecords → LinkedRecords

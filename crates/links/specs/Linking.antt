@@ -38,7 +38,8 @@ linkRecord i f qubits x = let y = linkAt f qubits (x .accepted) (x .first) (x .l
     (cond (ltb 2048 (x .edges .count + length (y .others))) (linksStopped (x .accepted) (TooManyEdges i))
     (linksFrom (x .accepted + 1) (withEdges (x .edges) (map (link f (x .accepted)) (y .others))) (cond f (y .near) (y .far)) (cond f (y .far) (y .near))))
 
--- the file's records with these numbers, one after the other: 2, 1, 8, 3 where the file has no such record, "then per record 4" and so on
+-- the file's records with these numbers, one after the other: 2, 1, 8, 3 where the file has no such record, "then per
+-- record 4" and so on
 unfoldable pub linkRecords : List ℕ → LinkedRecords → List ℕ → LinkedRecords
 linkRecords s x [] = x
 linkRecords s x (i ∷ l) =

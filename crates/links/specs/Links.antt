@@ -130,7 +130,8 @@ withEdges es new = record {
   to = appended (es .count) (map (λ (e : Edge). e .to) new) (es .to);
 }
 
--- "their count bounds the edges added": the most edges that a record adds, for a Set the count of its qubits, for All an entry of the map each
+-- "their count bounds the edges added": the most edges that a record adds, for a Set the count of its qubits, for All
+-- an entry of the map each
 abbrev pub edgeBound : InvolvedQubits → ℕ
 edgeBound None = 0
 edgeBound All = 64

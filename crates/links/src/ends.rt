@@ -84,8 +84,8 @@ fn edge_bound(qubits: InvolvedQubits) -> usize
     }
 }
 
-// Whether the edges pass 2,048 with the k new ones of a record with these qubits. The bound on k decides wherever it leaves room; a mask has at most
-// 64 qubits, so that they are counted near the limit only.
+// Whether the edges pass 2,048 with the k new ones of a record with these qubits. The bound on k decides wherever it
+// leaves room; a mask has at most 64 qubits, so that they are counted near the limit only.
 pub(crate) fn edges_pass(edges: usize, k: usize, qubits: InvolvedQubits) -> bool
     requires { ⌜ (edges ≤ 2048) × (k ≤ edgeBound qubits) ⌝ }
     ensures { λ r. ⌜ r ≡ ltb 2048 (edges + k) ⌝ }

@@ -6,6 +6,8 @@ ghost use Prim.Native.Nat.{_+_, _≤_, _<_};
 ghost use lib.Dec.{ltb};
 ghost use lib.ListN.{length};
 ghost use Rattle.file.specs.Lists.{allOf};
+ghost use Rattle.file.specs.Pairs.{pairPlace};
+ghost use Rattle.file.specs.Records.{refusalFrom};
 ghost use Rattle.graph.specs.Soundness.{named, ifPresent};
 ghost use Rattle.links.specs.Ends.{endState, endStateOf, lentEnd};
 ghost use Rattle.links.specs.Linking.{linksFrom, linksStopped, noLinks, linksFit, linksKept, linkNode, linkRecords};
@@ -17,10 +19,23 @@ use crate::ends::join_record;
 use file::InvolvedQubits;
 use file::Outcome;
 use file::Parsed;
+use file::Place;
 use file::Refusal;
 use graph::Edges;
 use graph::End;
 use graph::NodeIndex;
+
+// Why record i of a file is not taken: the refusal of its place, else 4. Only a record that was not parsed is asked, so
+// that one that is taken is located once.
+fn record_refusal(file: &[u8], i: usize) -> Refusal
+    ensures { λ r. ⌜ r ≡ refusalFrom (pairPlace (now (file .entry)) i) i ⌝ }
+{
+    let place = file::locate_pair(file, i);
+    match place {
+        Place::Refused(c) => c,
+        Place::At { .. } => Refusal::BadRecord(i),
+    }
+}
 
 // The refusal of the record after k accepted ones.
 fn links_stopped(k: usize, r: Refusal) -> LinkedRecords
@@ -193,7 +208,8 @@ pub fn link_node(
     )
 }
 
-// The file's records with these numbers, one after the other, as nodes 0, 1, 2, ..: each 2, 1, 8, 3 where the file has it not, then 4, 5, 6.
+// The file's records with these numbers, one after the other, as nodes 0, 1, 2, ..: each 2, 1, 8, 3 where the file has
+// it not, then 4, 5, 6.
 pub fn link_records(file: &[u8], order: &[u16]) -> LinkedRecords
     ensures { λ r. ⌜ r ≡ linkRecords (now (file .entry)) noLinks (now (order .entry)) ⌝ }
 {
@@ -210,10 +226,9 @@ pub fn link_records(file: &[u8], order: &[u16]) -> LinkedRecords
     let mut k: usize = 0;
     while k < order.len() {
         let i = file::to_index(order[k]);
-        let parsed = file::parse_at(file, i);
-        let r = match parsed {
-            Parsed::Refused(c) => return links_stopped(k, c),
-            Parsed::Record(r) => r,
+        let parsed = file::parse_record(file::part_of(file, i));
+        let Parsed::Record(r) = parsed else {
+            return links_stopped(k, record_refusal(file, i));
         };
         if 512 <= k {
             return links_stopped(k, Refusal::TooManyNodes);

@@ -1,4 +1,5 @@
-// The register maps of a circuit's records, and the links and maps of a list of records together. The rules are in specs/.
+// The register maps of a circuit's records, and the links and maps of a list of records together. The rules are in
+// specs/.
 mod entries;
 mod maps;
 
@@ -16,7 +17,8 @@ pub struct Registered {
     pub last: Registers,
 }
 
-// The ends and edges of a list of records, and their register maps. Both have the one answer: the first refusal in the order of insertion.
+// The ends and edges of a list of records, and their register maps. Both have the one answer: the first refusal in the
+// order of insertion.
 pub struct RegisteredRecords {
     pub linked: LinkedRecords,
     pub registered: Registered,

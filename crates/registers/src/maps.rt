@@ -1,5 +1,5 @@
-// The register maps of a list of records, and of one record on maps that are handed in. No other part of a graph is read. Of a list the links are
-// made first: they check the records, and the maps are made of those that they accept.
+// The register maps of a list of records, and of one record on maps that are handed in. No other part of a graph is
+// read. Of a list the links are made first: they check the records, and the maps are made of those that they accept.
 ghost use mathlib.Core.Path.{_≡_};
 ghost use mathlib.Core.Bool.{_&&_, _||_};
 ghost use Prim.Native.Nat.{_≤_};
@@ -84,7 +84,8 @@ fn maps_held(
     }
 }
 
-// The maps of the file's records with these numbers, which the links have accepted, one after the other as nodes 0, 1, 2, ..: 7.
+// The maps of the file's records with these numbers, which the links have accepted, one after the other as nodes 0, 1,
+// 2, ..: 7.
 fn enter_records(file: &[u8], order: &[u16]) -> Registered
     requires { ⌜ length (now order) ≤ 512 ⌝ }
     ensures { λ r. ⌜ r ≡ enterRecords (now (file .entry)) (now (order .entry)) ⌝ }
@@ -161,8 +162,9 @@ fn records_stopped(k: usize, r: Refusal) -> RegisteredRecords
     }
 }
 
-// The file's records with these numbers, one after the other, as nodes 0, 1, 2, ..: each 2, 1, 8, 3 where the file has it not, then 4 to 7. The maps see
-// only the records before the links' first refusal, so that theirs, if there is one, is the earlier.
+// The file's records with these numbers, one after the other, as nodes 0, 1, 2, ..: each 2, 1, 8, 3 where the file has
+// it not, then 4 to 7. The maps see only the records before the links' first refusal, so that theirs, if there is one,
+// is the earlier.
 pub fn register_records(file: &[u8], order: &[u16]) -> RegisteredRecords
     ensures { λ r. ⌜ r ≡ registerRecords (now (file .entry)) (now (order .entry)) ⌝ }
 {
