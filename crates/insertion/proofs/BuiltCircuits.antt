@@ -1,5 +1,5 @@
--- The circuit of every graph that is built has each node once and respects the edges (specs/Circuits.antt): every node has its record's kind, 0 to 5.
--- Assumes nothing.
+-- The circuit of every graph that is built has each node once and respects the edges (specs/Circuits.antt): every node
+-- has its record's kind, 0 to 5. Assumes nothing.
 use mathlib.Core.Bool.{false}
 use mathlib.Core.List.{List, [], _∷_}
 use Prim.Native.Nat.{ℕ}

@@ -1,4 +1,4 @@
--- The circuits of built graphs, and from a circuit file that is accepted back to a circuit: the statements. Assumes nothing.
+-- The circuits of built graphs, and from an accepted circuit file back to a circuit: the statements. Assumes nothing.
 use mathlib.Core.Path.{_≡_}
 use mathlib.Core.List.{List, map}
 use Prim.Native.Nat.{ℕ, _<_}
@@ -21,7 +21,7 @@ pub record WholeInOrder (g : CircuitDag) : Type 0 where
   pub whole : CircuitWhole g
   pub in-order : EdgesRespected g
 
--- the circuit of every graph that is built, with no condition on the bytes: by a list of insertions, a load or a conversion
+-- the circuit of every graph that is built by a list of insertions, a load or a conversion, with no condition on the bytes
 pub record CircuitsBuilt : Type 0 where
   pub inserted : (l : List (List ℕ)) → WholeInOrder (final l)
   pub loaded : (s : List ℕ) → WholeInOrder (load s .graph)
