@@ -381,3 +381,9 @@ pub map-at : {A B : Type 0} (f : A → B) (l : List A) (i : ℕ) (a : A) (b : B)
 map-at f [] i a b h = absurd (omega arith)
 map-at f (x ∷ l) zero a b h = refl
 map-at f (x ∷ l) (suc i) a b h = map-at f l i a b (omega arith)
+
+-- within a list the default does not matter
+pub any-default : (l : List ℕ) (i a b : ℕ) → i < length l → getD l i a ≡ getD l i b
+any-default [] i a b h = absurd (omega arith)
+any-default (x ∷ l) zero a b h = refl
+any-default (x ∷ l) (suc i) a b h = any-default l i a b (omega arith)

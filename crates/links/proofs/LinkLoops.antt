@@ -3,7 +3,7 @@ use mathlib.Core.Path.{_≡_, refl, sym, _∙_}
 use mathlib.Core.Bool.{Bool, true, false, cond, not}
 use mathlib.Core.List.{List, [], _∷_, _++_, map, append-assoc}
 use mathlib.Core.Logic.{⊎-elim}
-use Prim.Native.Nat.{ℕ, zero, suc, _+_, _-_, _^_, _<_, _≤_}
+use Prim.Native.Nat.{ℕ, suc, _+_, _-_, _^_, _<_, _≤_}
 use native.Mathlib.Decide.{ℕ-discrete}
 use native.Mathlib.Numerals.{add-one}
 use native.Mathlib.Omega.{arith}
@@ -20,12 +20,6 @@ use Rattle.file.proofs.BoolLaws.{bool-cases}
 use Rattle.links.specs.Links.{nearAll, qubits, linkQubits, mapped}
 use Rattle.links.specs.Ends.{endWith, OtherAdded, SetLinked, AllLinked}
 use Rattle.links.proofs.QubitLaws.{qubits-next, qubits-none, next-below, fewer, few-qubits}
-
--- within a list the default does not matter
-pub any-default : (l : List ℕ) (i a b : ℕ) → i < length l → getD l i a ≡ getD l i b
-any-default [] i a b h = absurd (omega arith)
-any-default (x ∷ l) zero a b h = refl
-any-default (x ∷ l) (suc i) a b h = any-default l i a b (omega arith)
 
 -- ---- holds
 

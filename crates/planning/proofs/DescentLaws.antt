@@ -20,7 +20,7 @@ use Rattle.queries.specs.Queries.{Lent}
 use Rattle.queries.specs.Marks.{putAt}
 use Rattle.file.proofs.BoolLaws.{bool-cases, clash-bool, and-l, and-r, and-intro, split-lt}
 use Rattle.queries.proofs.BufferLaws.{put-none, put-one, put-put, length-put, answers-short, answers-whole}
-use Rattle.links.proofs.LinkLoops.{any-default}
+use Rattle.graph.proofs.ListLaws.{any-default}
 use Rattle.walk.specs.declared.BlockCount.{BlockCount}
 use Rattle.walk.specs.declared.BlockCount.the-variants.{Blocks, Refused as NotWalked}
 use Rattle.walk.specs.Blocks.{Walked, blocks, blockNumbers, wholeWalk}

@@ -12,7 +12,7 @@ use borrow.Author.Tests.{lt-ltb, le-ltb, eq-eqb, ne-eqb}
 use Rattle.file.specs.Lists.{keep, consIf, countFrom, upTo}
 use Rattle.graph.specs.Dag.{absent}
 use Rattle.graph.proofs.ListLaws.{length-countFrom}
-use Rattle.links.proofs.LinkLoops.{any-default}
+use Rattle.graph.proofs.ListLaws.{any-default}
 use Rattle.file.specs.declared.Refusal.{Refusal}
 use Rattle.file.specs.declared.RefusalValue.{RefusalValue}
 use Rattle.file.specs.declared.RefusalValue.the-variants.{Nothing, At}

@@ -3,7 +3,7 @@ use Prim.Native.Nat.{_<_}
 use lib.ListN.{length}
 use native.Mathlib.Omega.{arith}
 use Rattle.graph.specs.Dag.{absent}
-use Rattle.links.proofs.LinkLoops.{any-default}
+use Rattle.graph.proofs.ListLaws.{any-default}
 use borrow.Author.Needs.{needs}
 use Rattle.links.proofs.ends.node_at.Statement.{statement}
 use Rattle.links.proofs.ends.node_at.Tie as tie
