@@ -7,16 +7,17 @@ use Prim.Native.Nat.{ℕ, zero, suc, _+_, _-_, _≤_, _<_}
 use native.Mathlib.Omega.{arith}
 use native.Mathlib.Numerals.{add-one}
 use lib.Dec.{eqb}
-use lib.ListN.{length, getD, take, drop, set, length-append, length-drop, take-append-drop}
+use lib.ListN.{length, getD, take, drop, set, replicate, length-append, length-drop, take-append-drop}
 use lib.Seq.{take-suc, take-length, length-take-le, take-at, drop-append-le, drop-append-add, slice-empty, drop-drop, set-split, slice, length-slice}
 use borrow.Author.Tests.{lt-ltb, le-ltb, ne-eqb, eq-eqb}
-use Rattle.file.specs.Lists.{keep, consIf, countFrom, upTo, member, isEmpty, onto}
+use Rattle.file.specs.Lists.{keep, consIf, countFrom, upTo, member, markedFrom, members, isEmpty, onto}
 use Rattle.file.specs.declared.Refusal.the-variants.{ShortBuffer}
 use Rattle.queries.specs.declared.Query.the-variants.{Entries}
 use Rattle.queries.specs.Queries.{Lent, refuses, answers, remove}
 use Rattle.queries.specs.Marks.{kept, putAt, without, layerBy, FirstAt}
 use Rattle.file.proofs.BoolLaws.{bool-cases, clash-bool, split-lt}
 use Rattle.graph.proofs.ListLaws.{at-any, at-none}
+use Rattle.graph.proofs.CheckLaws.{unmarked}
 
 -- ---- the entries that pass
 
@@ -101,6 +102,29 @@ put-one i x l b h =
 -- from the start on
 pub put-onto : (l b : List ℕ) → putAt 0 l b ≡ onto l b
 put-onto l b = let z : 0 + length l ≡ length l = omega arith in ap (λ (n : ℕ). l ++ drop n b) z
+
+-- the marked nodes, with none skipped
+pub members-kept : (mark skip : List Bool) → length mark ≡ 512 → skip ≡ replicate 512 false → kept mark skip 512 ≡ members mark
+unfolding keep countFrom markedFrom
+members-kept mark skip l s = sym (ap (λ (n : ℕ). keep passes (upTo n)) l) ∙ from 0 mark (λ i h. let z : 0 + i ≡ i = omega arith in rw z (free i))
+  where
+    alone : (b : Bool) → (b && true) ≡ b
+    alone true = refl
+    alone false = refl
+
+    passes : ℕ → Bool
+    passes u = getD mark u false && not (getD skip u false)
+
+    free : (i : ℕ) → passes i ≡ getD mark i false
+    free i = rw (s, unmarked 512 i) (alone (getD mark i false))
+
+    from : (k : ℕ) (m : List Bool) → ((i : ℕ) → i < length m → passes (k + i) ≡ getD m i false) → keep passes (countFrom (length m) k) ≡ markedFrom k m
+    from k [] f = refl
+    from k (b ∷ m) f =
+        let z : k + 0 ≡ k = omega arith in
+        let here : passes k ≡ b = rw z at (f 0 (omega arith)) in
+        (λ t. consIf (here t) k (keep passes (countFrom (length m) (k + 1))))
+        ∙ ap (λ (r : List ℕ). consIf b k r) (from (k + 1) m (λ i h. let y : k + 1 + i ≡ k + suc i = omega arith in rw y (f (suc i) (omega arith))))
 
 -- ---- the answer and the buffer
 

@@ -6,6 +6,8 @@ mod queries;
 pub use conversion::definitions_first;
 pub use conversion::to_circuit;
 use file::Refusal;
+pub use queries::answer_list;
+pub use queries::answer_marked;
 pub use queries::blocking_predecessors;
 pub use queries::execution_blocked;
 pub use queries::new_front_layer;

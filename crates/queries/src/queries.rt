@@ -6,6 +6,7 @@ ghost use Prim.Native.Nat.{ℕ, _+_, _-_, _≤_, _<_};
 ghost use lib.Dec.{ltb, leb};
 ghost use lib.ListN.{length, getD, set};
 ghost use lib.Seq.{slice};
+ghost use Rattle.file.specs.Lists.{members};
 ghost use Rattle.queries.specs.Marks.{noNode, everyNode, kept, putAt, without, layerBy, Listed, EndsBelow, Ordered, LeadsAbove, Neighbours, Swept, Closed, Waiting, FirstAt};
 ghost use Rattle.queries.specs.Queries.{answers, executionBlocked, blockingPredecessors, successors as successorsRule, newFrontLayer};
 use crate::Query;
@@ -268,6 +269,14 @@ fn answer_kept(mark: &[bool; 512], skip: &[bool; 512], n: usize, buffer: &mut [u
     Query::Entries(k)
 }
 
+// The answer of a query whose entries are the marked nodes, ascending.
+pub fn answer_marked(mark: [bool; 512], buffer: &mut [u16]) -> Query
+    ensures { λ r. ⌜ record { answer = r; buffer = now (buffer .exit) } ≡ answers (members mark) (now (buffer .entry)) ⌝ }
+{
+    let none = no_marks();
+    answer_kept(&mark, &none, 512, buffer)
+}
+
 // The first index of v in the list; its length where v does not stand there.
 fn index_in(list: &[u16], v: NodeIndex) -> usize
     ensures { λ r. ⌜ FirstAt (v .0) (now (list .entry)) r ⌝ }
@@ -320,7 +329,7 @@ fn waiting(skip: &[bool; 512], from: &[u16; 2048], to: &[u16; 2048], m: usize) -
 }
 
 // The answer of a query whose entries are a list.
-pub(crate) fn answer_list(list: &[u16], buffer: &mut [u16]) -> Query
+pub fn answer_list(list: &[u16], buffer: &mut [u16]) -> Query
     ensures { λ r. ⌜ record { answer = r; buffer = now (buffer .exit) } ≡ answers (now (list .entry)) (now (buffer .entry)) ⌝ }
 {
     let len = list.len();

@@ -1,0 +1,28 @@
+-- `accessors::first_parallel_block` meets its contract. Assumes nothing.
+use mathlib.Core.Path.{refl, sym, _∙_}
+use borrow.Author.Tests.{not-true, not-false}
+use Rattle.accessors.specs.Accessors.{firstParallelBlock}
+use borrow.Author.Needs.{needs}
+use Rattle.accessors.proofs.first_parallel_block.Statement.{statement}
+use Rattle.accessors.proofs.first_parallel_block.Tie as tie
+
+is-sound-requires : tie.Need-is-sound-requires
+is-sound-requires c κs = search needs
+
+returns : tie.Need-returns
+unfolding firstParallelBlock
+returns c = rw (sym (c .before .is-sound .ensures) ∙ not-true _ (c .if1 .taken)) refl
+
+answer-marked-requires : tie.Need-answer-marked-requires
+answer-marked-requires c κs = search needs
+
+same-length : tie.Need-same-length
+same-length c = search needs
+
+returns-2 : tie.Need-returns-2
+unfolding firstParallelBlock
+returns-2 c = let s = c .before .before .before .before .before in rw (sym (s .before .is-sound .ensures) ∙ not-false _ (s .if1 .left)) (c .before .before .answer-marked .ensures)
+
+pub first-parallel-block-spec : {M : Type 1} → statement M
+first-parallel-block-spec =
+    tie.close (tie.spec is-sound-requires returns answer-marked-requires same-length returns-2)
