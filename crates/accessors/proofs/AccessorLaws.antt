@@ -1,16 +1,15 @@
 -- The accessors: the key's entry in a register map, and the answers. Assumes nothing.
-use mathlib.Core.Path.{_≡_, refl, sym, _∙_, ap}
+use mathlib.Core.Path.{_≡_, refl, sym, _∙_}
 use mathlib.Core.Bool.{Bool, true, false, cond, _&&_}
 use mathlib.Core.List.{List, map}
 use Prim.Native.Nat.{ℕ, suc, _+_, _-_, _≤_, _<_}
 use native.Mathlib.Omega.{arith}
-use lib.Dec.{eqb, ltb}
-use lib.ListN.{length, getD}
+use lib.Dec.{eqb}
+use lib.ListN.{getD}
 use Rattle.file.specs.Lists.{countFrom}
 use Rattle.file.specs.declared.RegisterKey.{RegisterKey}
 use Rattle.graph.specs.declared.Registers.{Registers}
 use Rattle.graph.specs.Dag.{Entry, node, entryAt, entriesOf}
-use Rattle.accessors.specs.declared.Operation.{Operation}
 use Rattle.accessors.specs.declared.Operation.the-variants.{Node, None}
 use Rattle.accessors.specs.Accessors.{nodeOfKey}
 

@@ -1,9 +1,8 @@
 -- `accessors::at_qubit` meets its contract. Assumes nothing.
 use mathlib.Core.Path.{_≡_, refl, sym, _∙_}
-use Prim.Native.Nat.{_<_}
 use native.Mathlib.Omega.{arith}
 use lib.ListN.{length, getD, List·getD-eq-default}
-use borrow.Author.Tests.{eq-eqb, ne-eqb}
+use borrow.Author.Tests.{ne-eqb}
 use Rattle.graph.specs.Dag.{absent}
 use Rattle.graph.proofs.ListLaws.{any-default}
 use Rattle.graph.proofs.SizeLaws.{end-sized}

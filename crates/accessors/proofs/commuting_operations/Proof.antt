@@ -1,10 +1,9 @@
 -- `accessors::commuting_operations` meets its contract. Assumes nothing.
 use mathlib.Core.Path.{_≡_, refl, sym, _∙_, ap}
 use mathlib.Core.Bool.{true}
-use mathlib.Core.List.{List}
 use Prim.Native.Nat.{ℕ, _-_}
 use native.Mathlib.Omega.{arith}
-use lib.ListN.{length, take}
+use lib.ListN.{take}
 use borrow.Author.Tests.{not-true, not-false}
 use Rattle.graph.specs.Soundness.{sound}
 use Rattle.graph.proofs.SizeLaws.{dag-sized}
