@@ -324,6 +324,7 @@ static void torn_files(void) {
     sawhekonu_graph_answer g = sawhekonu_load(file, 1);
     answered("load of a byte", g.answer, SAWHEKONU_FILE_TOO_SHORT, SAWHEKONU_NONE);
     holds("load of a byte", same_dag(&g.graph, &empty));
+    answered("locate_record in a byte", sawhekonu_locate_record(file, 1, 0).answer, SAWHEKONU_FILE_TOO_SHORT, SAWHEKONU_NONE);
     answered("load of cut pairs", sawhekonu_load(file, 13).answer, SAWHEKONU_FILE_TOO_SHORT, SAWHEKONU_NONE);
     answered("load of a cut record", sawhekonu_load(file, 55).answer, SAWHEKONU_BAD_PAIR, 2);
     answered("from_circuit of a cut record", sawhekonu_from_circuit(file, 55).answer, SAWHEKONU_BAD_PAIR, 2);
