@@ -18,6 +18,7 @@ use queries::answer_list;
 use queries::answer_marked;
 
 // What a node keeps.
+#[repr(C)]
 pub struct KeptNode {
     pub kind: u8,
     pub form: u8,

@@ -6,7 +6,9 @@ use mathlib.Core.List.{List}
 use Prim.Native.Nat.{ℕ, _≤_, _<_}
 use native.Mathlib.Omega.{arith}
 use lib.Dec.{leb}
-use borrow.Author.Tests.{leb-true}
+use borrow.Author.Tests.{leb-true, le-ltb}
+use Rattle.accessors.specs.declared.Got.the-variants.{Refused as NotGot}
+use Rattle.accessors.specs.Accessors.{get}
 use Rattle.file.proofs.BoolLaws.{bool-cases, and-l}
 use Rattle.graph.specs.declared.CircuitDag.{CircuitDag}
 use Rattle.graph.specs.Dag.{size}
@@ -47,3 +49,12 @@ module _ (g : CircuitDag) (v : ℕ) (b : List ℕ) (h : 65535 < v) where
     pub layer-beyond : (layer : List ℕ) → _≡_ {A = HostLent} (record { answer = noNode g; buffer = b }) (lent (newFrontLayer g executed layer v b))
     layer-beyond layer = beyond g b (newFrontLayer g executed layer v b) (layer-unsound g executed v b layer)
         (λ e. layer-absent g executed v b layer e (omega (arith, few-nodes g e)))
+
+-- .. and so does `get`
+pub got-unsound : (g : CircuitDag) (v : ℕ) → sound g ≡ false → NotGot Unsound ≡ get g v
+unfolding get
+got-unsound g v e = rw e refl
+
+pub got-beyond : (g : CircuitDag) (v : ℕ) → 65535 < v → sound g ≡ true → NotGot Absent ≡ get g v
+unfolding get
+got-beyond g v h e = rw (e, le-ltb v (size g) (omega (arith, few-nodes g e))) refl

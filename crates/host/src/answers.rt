@@ -1,8 +1,12 @@
 // Each answer of the crates below as two numbers.
 ghost use mathlib.Core.Path.{_≡_};
-ghost use Rattle.host.specs.Answers.{numberOr, accepts, refuses, noNode, ofQuery, ofInserted, ofLoaded, ofStep, ofWalk, ofPlace};
+ghost use Rattle.host.specs.Answers.{numberOr, accepts, refuses, noNode, ofQuery, ofInserted, ofLoaded, ofStep, ofWalk, ofPlace, noKept, ofGot, ofOperation, noOperation};
 use crate::HostAnswer;
+use crate::HostNode;
 use crate::HostPlace;
+use accessors::Got;
+use accessors::KeptNode;
+use accessors::Operation;
 use file::Outcome;
 use file::Place;
 use file::Refusal;
@@ -114,4 +118,51 @@ pub(crate) fn of_place(x: Place) -> HostPlace
             length: 0,
         },
     }
+}
+
+// What no node keeps.
+fn no_kept() -> KeptNode
+    ensures { λ r. ⌜ r ≡ noKept ⌝ }
+{
+    KeptNode {
+        kind: 0,
+        form: 0,
+        label: 0,
+        place: 0,
+    }
+}
+
+pub(crate) fn of_got(x: Got) -> HostNode
+    ensures { λ r. ⌜ r ≡ ofGot x ⌝ }
+{
+    match x {
+        Got::Node(node) => HostNode {
+            answer: accept(0),
+            node,
+        },
+        Got::Refused(c) => HostNode {
+            answer: refuse(c),
+            node: no_kept(),
+        },
+    }
+}
+
+pub(crate) fn of_operation(x: Operation) -> HostAnswer
+    ensures { λ r. ⌜ r ≡ ofOperation x ⌝ }
+{
+    match x {
+        Operation::Node(v) => accept(v.0 as usize),
+        Operation::None => accept(65535),
+        Operation::Refused(c) => refuse(c),
+    }
+}
+
+// Nothing that a map has: 11, else none.
+pub(crate) fn no_operation(g: CircuitDag) -> HostAnswer
+    ensures { λ r. ⌜ r ≡ noOperation g ⌝ }
+{
+    if graph::is_sound(g) {
+        return accept(65535);
+    }
+    refuse(Refusal::Unsound)
 }

@@ -1,7 +1,8 @@
-// The library for C and Rust: load, insertion, soundness, conversions, queries, walk and chain under a C name; include/sawhekonu.h is its header.
+// The library for C and Rust: load, insertion, soundness, conversions, queries, accessors, walk and chain under a C name; include/sawhekonu.h is its header.
 // Graph, walk and answers cross by value as #[repr(C)] structs, a slice as its pointer and length, a node number as usize, a mark as a byte. What
 // the caller hands in is tested: bytes that are no marks are refused, as is a number that is no node's. What is left to the caller is what C
 // cannot say: each pointer has its length's elements, and lent slices do not overlap.
+mod accessing;
 mod answers;
 mod chains;
 mod conversion;
@@ -12,6 +13,7 @@ mod querying;
 mod reading;
 mod walking;
 
+use accessors::KeptNode;
 use graph::Commuting;
 use graph::Edges;
 use graph::NodeIndex;
@@ -75,4 +77,11 @@ pub struct HostPlace {
     pub answer: HostAnswer,
     pub offset: usize,
     pub length: usize,
+}
+
+// An answer with what a node keeps; zeros where it is refused.
+#[repr(C)]
+pub struct HostNode {
+    pub answer: HostAnswer,
+    pub node: KeptNode,
 }
