@@ -66,6 +66,14 @@ FIELD(sawhekonu_place_answer, answer, 0, 16);
 FIELD(sawhekonu_place_answer, offset, 16, 8);
 FIELD(sawhekonu_place_answer, length, 24, 8);
 SIZE(sawhekonu_place_answer, 32);
+FIELD(sawhekonu_kept_node, kind, 0, 1);
+FIELD(sawhekonu_kept_node, form, 1, 1);
+FIELD(sawhekonu_kept_node, label, 2, 2);
+FIELD(sawhekonu_kept_node, place, 4, 2);
+SIZE(sawhekonu_kept_node, 6);
+FIELD(sawhekonu_node_answer, answer, 0, 16);
+FIELD(sawhekonu_node_answer, node, 16, 6);
+SIZE(sawhekonu_node_answer, 24);
 
 /* ---- what is expected */
 
@@ -315,6 +323,55 @@ static void registers(void) {
     listed("to_circuit with registers", sawhekonu_to_circuit(g.graph, buffer, 4), LIST(0, 1, 2, 3));
 }
 
+/* B{5} label 9, Bit name 1 length 2, F{5,6}, B None/All name 1: what each accessor answers, first and last apart */
+static void accessors(void) {
+    uint8_t back[14], one[17], front[14], all[15], file[128];
+    gate(back, 0, 1 << 5, 9);
+    bit(one, 1, 2);
+    gate(front, FRONT, 3 << 5, 4);
+    memset(all, 0, sizeof all);
+    all[11] = 1;
+    all[14] = 1;
+    const uint8_t *records[] = {back, one, front, all};
+    const size_t lengths[] = {14, 17, 14, 15};
+    sawhekonu_graph_answer g = sawhekonu_load(file, file_of(file, 4, records, lengths));
+    answered("load", g.answer, 0, 0);
+    sawhekonu_node_answer n = sawhekonu_get(g.graph, 2);
+    answered("get", n.answer, 0, 0);
+    holds("get", n.node.kind == 0 && n.node.form == 2 && n.node.label == 4 && n.node.place == -1);
+    n = sawhekonu_get(g.graph, 1);
+    answered("get of a definition", n.answer, 0, 0);
+    holds("get of a definition", n.node.kind == 1 && n.node.form == 0 && n.node.label == 0 && n.node.place == 1);
+    const size_t absent[] = {4, 65535, 65536, 65536 + 2, SIZE_MAX};
+    for (size_t i = 0; i < sizeof absent / sizeof absent[0]; i++) {
+        n = sawhekonu_get(g.graph, absent[i]);
+        refused("get of an absent node", n.answer, SAWHEKONU_ABSENT);
+        holds("get of an absent node", n.node.kind == 0 && n.node.form == 0 && n.node.label == 0 && n.node.place == 0);
+    }
+    listed("commuting_operations", sawhekonu_commuting_operations(g.graph, buffer, 1), LIST(1));
+    listed("first_parallel_block", sawhekonu_first_parallel_block(g.graph, buffer, 1), LIST(2));
+    listed("last_parallel_block", sawhekonu_last_parallel_block(g.graph, buffer, 1), LIST(0));
+    refused("commuting_operations, short buffer", sawhekonu_commuting_operations(g.graph, buffer, 0), SAWHEKONU_SHORT_BUFFER);
+    refused("first_parallel_block, short buffer", sawhekonu_first_parallel_block(g.graph, buffer, 0), SAWHEKONU_SHORT_BUFFER);
+    refused("last_parallel_block, short buffer", sawhekonu_last_parallel_block(g.graph, buffer, 0), SAWHEKONU_SHORT_BUFFER);
+    answered("first operation of qubit 5", sawhekonu_first_operation_involving_qubit(g.graph, 5), 0, 2);
+    answered("last operation of qubit 5", sawhekonu_last_operation_involving_qubit(g.graph, 5), 0, 0);
+    answered("last operation of qubit 6", sawhekonu_last_operation_involving_qubit(g.graph, 6), 0, 2);
+    answered("first operation of key (1,0)", sawhekonu_first_operation_involving_classical(g.graph, 1, 0), 0, 1);
+    answered("last operation of key (1,1)", sawhekonu_last_operation_involving_classical(g.graph, 1, 1), 0, 3);
+    const size_t no_qubit[] = {0, 64, 256 + 5, SIZE_MAX};
+    for (size_t i = 0; i < sizeof no_qubit / sizeof no_qubit[0]; i++) {
+        answered("first operation of no qubit", sawhekonu_first_operation_involving_qubit(g.graph, no_qubit[i]), 0, SAWHEKONU_NONE);
+        answered("last operation of no qubit", sawhekonu_last_operation_involving_qubit(g.graph, no_qubit[i]), 0, SAWHEKONU_NONE);
+    }
+    const size_t no_key[][2] = {{1, 2}, {2, 0}, {256 + 1, 0}, {1, 65536}, {SIZE_MAX, SIZE_MAX}};
+    for (size_t i = 0; i < sizeof no_key / sizeof no_key[0]; i++) {
+        size_t name = no_key[i][0], index = no_key[i][1];
+        answered("first operation of no key", sawhekonu_first_operation_involving_classical(g.graph, name, index), 0, SAWHEKONU_NONE);
+        answered("last operation of no key", sawhekonu_last_operation_involving_classical(g.graph, name, index), 0, SAWHEKONU_NONE);
+    }
+}
+
 /* ---- refusals */
 
 static void torn_files(void) {
@@ -387,6 +444,14 @@ static void unsound(const char *what, sawhekonu_dag dag) {
     refused(what, sawhekonu_blocking_predecessors(dag, none, 0, 65536, buffer, ROOM), SAWHEKONU_UNSOUND);
     refused(what, sawhekonu_successors(dag, 65536, buffer, ROOM), SAWHEKONU_UNSOUND);
     refused(what, sawhekonu_new_front_layer(dag, none, 0, none, 0, 0, buffer, 0), SAWHEKONU_UNSOUND);
+    refused(what, sawhekonu_get(dag, 65536).answer, SAWHEKONU_UNSOUND);
+    refused(what, sawhekonu_commuting_operations(dag, buffer, 0), SAWHEKONU_UNSOUND);
+    refused(what, sawhekonu_first_parallel_block(dag, buffer, 0), SAWHEKONU_UNSOUND);
+    refused(what, sawhekonu_last_parallel_block(dag, buffer, 0), SAWHEKONU_UNSOUND);
+    refused(what, sawhekonu_first_operation_involving_qubit(dag, 64), SAWHEKONU_UNSOUND);
+    refused(what, sawhekonu_last_operation_involving_qubit(dag, 0), SAWHEKONU_UNSOUND);
+    refused(what, sawhekonu_first_operation_involving_classical(dag, 256, 0), SAWHEKONU_UNSOUND);
+    refused(what, sawhekonu_last_operation_involving_classical(dag, 0, 0), SAWHEKONU_UNSOUND);
 }
 
 static void unsound_graphs(void) {
@@ -459,6 +524,14 @@ static void call_layer(void) { sink += sawhekonu_new_front_layer(deep, none, 1, 
 static void call_next(void) { stepped = sawhekonu_next(deep, stepped.walk, buffer, ROOM); }
 static void call_whole_walk(void) { sink += sawhekonu_whole_walk(deep, buffer, ROOM).value; }
 static void call_chain(void) { sink += sawhekonu_chain(deep, buffer, ROOM).value; }
+static void call_get(void) { sink += sawhekonu_get(deep, 0).answer.value; }
+static void call_commuting(void) { sink += sawhekonu_commuting_operations(deep, buffer, ROOM).value; }
+static void call_first_block(void) { sink += sawhekonu_first_parallel_block(deep, buffer, ROOM).value; }
+static void call_last_block(void) { sink += sawhekonu_last_parallel_block(deep, buffer, ROOM).value; }
+static void call_first_qubit(void) { sink += sawhekonu_first_operation_involving_qubit(deep, 0).value; }
+static void call_last_qubit(void) { sink += sawhekonu_last_operation_involving_qubit(deep, 0).value; }
+static void call_first_key(void) { sink += sawhekonu_first_operation_involving_classical(deep, 0, 0).value; }
+static void call_last_key(void) { sink += sawhekonu_last_operation_involving_classical(deep, 0, 0).value; }
 
 static void *in_thread(void *call) {
     (*(void (**)(void))call)();
@@ -500,6 +573,14 @@ static void stacks(void) {
         {"next", call_next},
         {"whole_walk", call_whole_walk},
         {"chain", call_chain},
+        {"get", call_get},
+        {"commuting_operations", call_commuting},
+        {"first_parallel_block", call_first_block},
+        {"last_parallel_block", call_last_block},
+        {"first_operation_involving_qubit", call_first_qubit},
+        {"last_operation_involving_qubit", call_last_qubit},
+        {"first_operation_involving_classical", call_first_key},
+        {"last_operation_involving_classical", call_last_key},
     };
     make_deep();
     size_t thread = stack_of(call_nothing), most = 0;
@@ -528,6 +609,7 @@ int main(int count, char **words) {
     three_in_a_row();
     two_at_the_front();
     registers();
+    accessors();
     torn_files();
     refused_queries();
     unsound_graphs();

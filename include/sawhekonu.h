@@ -126,6 +126,19 @@ typedef struct sawhekonu_place_answer {
     size_t length;
 } sawhekonu_place_answer;
 
+/* What a node keeps. */
+typedef struct sawhekonu_kept_node {
+    uint8_t kind;
+    uint8_t form;
+    uint16_t label;
+    int16_t place;
+} sawhekonu_kept_node;
+
+typedef struct sawhekonu_node_answer {
+    sawhekonu_answer answer;
+    sawhekonu_kept_node node;
+} sawhekonu_node_answer;
+
 /* ---- the circuit file */
 
 /* Where record i (from 0) stands in the file: its bytes are file[offset] to file[offset + length - 1]. Refused 2, 1, 3, then 8 if the file has no
@@ -175,6 +188,33 @@ sawhekonu_answer sawhekonu_successors(sawhekonu_dag dag, size_t node, uint16_t *
  * written, the whole new layer. layer_length + 510 entries always suffice: the node goes, and at most 511 others come. */
 sawhekonu_answer sawhekonu_new_front_layer(sawhekonu_dag dag, const uint16_t *executed, size_t executed_length, const uint16_t *layer,
                                            size_t layer_length, size_t node, uint16_t *buffer, size_t buffer_length);
+
+/* ---- what a graph holds: the same as its fields, of a graph that is sound */
+
+/* What a node keeps. Refused 11, 8, with zeros. Value: 0. */
+sawhekonu_node_answer sawhekonu_get(sawhekonu_dag dag, size_t node);
+
+/* The commuting list, ascending. Refused 11, 10. Value: how many entries were written. 512 entries always suffice. */
+sawhekonu_answer sawhekonu_commuting_operations(sawhekonu_dag dag, uint16_t *buffer, size_t buffer_length);
+
+/* The nodes of the first block, ascending. Refused 11, 10. Value: how many entries were written. 512 entries always suffice. */
+sawhekonu_answer sawhekonu_first_parallel_block(sawhekonu_dag dag, uint16_t *buffer, size_t buffer_length);
+
+/* The nodes of the last block, likewise. */
+sawhekonu_answer sawhekonu_last_parallel_block(sawhekonu_dag dag, uint16_t *buffer, size_t buffer_length);
+
+/* The first operation that involves a qubit. Refused 11. Value: its node, SAWHEKONU_NONE where there is none, as for a qubit over 63. */
+sawhekonu_answer sawhekonu_first_operation_involving_qubit(sawhekonu_dag dag, size_t qubit);
+
+/* The last one, likewise. */
+sawhekonu_answer sawhekonu_last_operation_involving_qubit(sawhekonu_dag dag, size_t qubit);
+
+/* The first operation that involves the entry (name, index) of a register. Refused 11. Value: its node, SAWHEKONU_NONE where there is none, as for a
+ * name over 255 or an index over 65535. */
+sawhekonu_answer sawhekonu_first_operation_involving_classical(sawhekonu_dag dag, size_t name, size_t index);
+
+/* The last one, likewise. */
+sawhekonu_answer sawhekonu_last_operation_involving_classical(sawhekonu_dag dag, size_t name, size_t index);
 
 /* ---- walk and chain */
 
