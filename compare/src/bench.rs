@@ -196,7 +196,7 @@ fn insert_times(c: &Case, turns: usize) -> Turns {
         &mut [
             &mut || {
                 let mut dag = original::CircuitDag::with_capacity(c.n, c.n);
-                c.parts.iter().for_each(|part| given::insert(&mut dag, part));
+                c.parts.iter().for_each(|part| { let _ = given::insert(&mut dag, part); });
                 black_box(&dag);
             },
             &mut || {

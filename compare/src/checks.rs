@@ -1,7 +1,7 @@
 //! One input held against the original and the independent reading. Every check is the same for the same records and seed.
 use crate::circuits::{file_of, parts_of, Random, Record};
 use crate::reading::{self, Graph, Refusal};
-use crate::sawhekonu::{self, Answer, CircuitDag, GraphAnswer, Walk, NONE};
+use crate::sawhekonu::{self, Answer, CircuitDag, GraphAnswer, KeptNode, NodeAnswer, Walk, NONE};
 use crate::{given, views};
 use std::collections::{BTreeMap, BTreeSet};
 
@@ -144,6 +144,7 @@ fn graph_checks(
     same("is_sound", ours.is_sound(), true)?;
     walk(ours, theirs, reading, random, counts)?;
     to_circuit(ours, theirs, reading, random, counts)?;
+    accessors(ours, theirs, reading, random, counts)?;
     for _ in 0..2 {
         step_from_any_state(ours, theirs, reading, random, counts)?;
         queries(ours, theirs, reading, random, counts)?;
@@ -336,6 +337,45 @@ fn absent_node(ours: &CircuitDag, n: usize, list: &[u16], random: &mut Random) -
         2 => refuses("successors of an absent node", 8, &mut |b| ours.successors(absent, b)),
         _ => refuses("new_front_layer of an absent node", 8, &mut |b| ours.new_front_layer(list, &[absent], absent, b)),
     }
+}
+
+/// What the source's accessors answer, and the same of ours.
+fn accessors(
+    ours: &CircuitDag,
+    theirs: &original::CircuitDag,
+    reading: &Graph,
+    random: &mut Random,
+    counts: &mut Counts,
+) -> Result<(), String> {
+    let v = random.below(reading.size() + 2);
+    let kept = theirs.get(v).map(|x| (x.kind(), x.form(), x.label()));
+    let got = ours.get(v);
+    match kept {
+        None => same("get of an absent node", got.answer, refused((8, None)))?,
+        Some((kind, form, label)) => {
+            let node = KeptNode { kind, form, label, place: reading.places[v] as i16 };
+            same("get", (got.answer, got.node), (accepted(0), node))?;
+        }
+    }
+    let sorted = |set: &std::collections::HashSet<usize>| small(&set.iter().copied().collect::<BTreeSet<_>>().into_iter().collect::<Vec<_>>());
+    let commuting = small(theirs.commuting_operations());
+    let (first, last) = (sorted(theirs.first_parallel_block()), sorted(theirs.last_parallel_block()));
+    answered("commuting_operations", &commuting, some_length(random, commuting.len()), &mut |b| ours.commuting_operations(b))?;
+    answered("first_parallel_block", &first, some_length(random, first.len()), &mut |b| ours.first_parallel_block(b))?;
+    answered("last_parallel_block", &last, some_length(random, last.len()), &mut |b| ours.last_parallel_block(b))?;
+    let named = |v: Option<&usize>| accepted(v.copied().unwrap_or(NONE));
+    let q = random.below(70);
+    same("first operation of a qubit", ours.first_operation_involving_qubit(q), named(theirs.first_operation_involving_qubit().get(&q)))?;
+    same("last operation of a qubit", ours.last_operation_involving_qubit(q), named(theirs.last_operation_involving_qubit().get(&q)))?;
+    let keys: Vec<&(u8, usize)> = reading.dump.first_registers.keys().chain(reading.dump.last_registers.keys()).collect();
+    let key = if keys.is_empty() || random.one_in(4) { (random.below(4) as u8, random.below(6)) } else { *keys[random.below(keys.len())] };
+    let (name, index) = (original::operations::register_name(key.0), key.1);
+    let first = ours.first_operation_involving_classical(key.0 as usize, index);
+    let last = ours.last_operation_involving_classical(key.0 as usize, index);
+    same("first operation of a key", first, named(theirs.first_operation_involving_classical().get(&(name.clone(), index))))?;
+    same("last operation of a key", last, named(theirs.last_operation_involving_classical().get(&(name, index))))?;
+    counts.add("accessors, of each");
+    Ok(())
 }
 
 /// Both circuits respect every edge between two records of kind 0, and between two of kinds 1 to 5; ours is by kind and place.
@@ -541,6 +581,14 @@ pub fn damaged_graph(records: &[Record], seed: u64, counts: &mut Counts) -> Resu
     refuses("to_circuit, 11", 11, &mut |b| g.to_circuit(b))?;
     refuses("whole_walk, 11", 11, &mut |b| g.whole_walk(b))?;
     refuses("chain, 11", 11, &mut |b| g.chain(b))?;
+    refuses("commuting_operations, 11", 11, &mut |b| g.commuting_operations(b))?;
+    refuses("first_parallel_block, 11", 11, &mut |b| g.first_parallel_block(b))?;
+    refuses("last_parallel_block, 11", 11, &mut |b| g.last_parallel_block(b))?;
+    same("get, 11", g.get(v as usize), NodeAnswer { answer: refused((11, None)), node: KeptNode::default() })?;
+    same("a qubit's first operation, 11", g.first_operation_involving_qubit(v as usize), refused((11, None)))?;
+    same("a qubit's last operation, 11", g.last_operation_involving_qubit(v as usize), refused((11, None)))?;
+    same("a key's first operation, 11", g.first_operation_involving_classical(v as usize, 0), refused((11, None)))?;
+    same("a key's last operation, 11", g.last_operation_involving_classical(v as usize, 0), refused((11, None)))?;
     let walk = Walk { current: [true; 512], executed: [false; 512] };
     refuses("next, 11", 11, &mut |b| g.next(&walk, b).answer)?;
     same("next, 11: the walk", g.next(&walk, &mut []).walk == walk, true)?;

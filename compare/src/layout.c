@@ -16,7 +16,12 @@ const size_t sawhekonu_layout[] = {
     sizeof(sawhekonu_answer), offsetof(sawhekonu_answer, refusal), offsetof(sawhekonu_answer, value),
     sizeof(sawhekonu_graph_answer), offsetof(sawhekonu_graph_answer, answer), offsetof(sawhekonu_graph_answer, graph),
     sizeof(sawhekonu_step_answer), offsetof(sawhekonu_step_answer, answer), offsetof(sawhekonu_step_answer, walk),
+    sizeof(sawhekonu_place_answer), offsetof(sawhekonu_place_answer, answer), offsetof(sawhekonu_place_answer, offset),
+    offsetof(sawhekonu_place_answer, length),
+    sizeof(sawhekonu_kept_node), offsetof(sawhekonu_kept_node, kind), offsetof(sawhekonu_kept_node, form), offsetof(sawhekonu_kept_node, label),
+    offsetof(sawhekonu_kept_node, place),
+    sizeof(sawhekonu_node_answer), offsetof(sawhekonu_node_answer, answer), offsetof(sawhekonu_node_answer, node),
     0,
 };
 
-_Static_assert(sizeof sawhekonu_layout == 45 * sizeof(size_t), "layout.rs has as many");
+_Static_assert(sizeof sawhekonu_layout == 57 * sizeof(size_t), "layout.rs has as many");

@@ -3,7 +3,7 @@ use crate::sawhekonu::*;
 use std::mem::{offset_of, size_of};
 
 extern "C" {
-    static sawhekonu_layout: [usize; 45];
+    static sawhekonu_layout: [usize; 57];
 }
 
 /// A struct's size, then the offset of each field.
@@ -24,6 +24,9 @@ pub fn check() {
         Answer { refusal value }
         GraphAnswer { answer graph }
         StepAnswer { answer walk }
+        PlaceAnswer { answer offset length }
+        KeptNode { kind form label place }
+        NodeAnswer { answer node }
     };
     // SAFETY: layout.c defines the array, and asserts its length.
     assert_eq!(ours, unsafe { sawhekonu_layout }, "sawhekonu.rs and include/sawhekonu.h declare different structs");

@@ -95,6 +95,22 @@ pub struct PlaceAnswer {
     pub length: usize,
 }
 
+#[repr(C)]
+#[derive(Clone, Copy, PartialEq, Eq, Debug, Default)]
+pub struct KeptNode {
+    pub kind: u8,
+    pub form: u8,
+    pub label: u16,
+    pub place: i16,
+}
+
+#[repr(C)]
+#[derive(Clone, Copy, PartialEq, Eq, Debug)]
+pub struct NodeAnswer {
+    pub answer: Answer,
+    pub node: KeptNode,
+}
+
 /// Where a refusal returns its number alone, and where a step says None.
 pub const NONE: usize = 65535;
 
@@ -139,6 +155,14 @@ mod library {
         pub fn sawhekonu_next(dag: CircuitDag, state: Walk, buffer: *mut u16, length: usize) -> StepAnswer;
         pub fn sawhekonu_whole_walk(dag: CircuitDag, buffer: *mut u16, length: usize) -> Answer;
         pub fn sawhekonu_chain(dag: CircuitDag, buffer: *mut u16, length: usize) -> Answer;
+        pub fn sawhekonu_get(dag: CircuitDag, node: usize) -> NodeAnswer;
+        pub fn sawhekonu_commuting_operations(dag: CircuitDag, buffer: *mut u16, length: usize) -> Answer;
+        pub fn sawhekonu_first_parallel_block(dag: CircuitDag, buffer: *mut u16, length: usize) -> Answer;
+        pub fn sawhekonu_last_parallel_block(dag: CircuitDag, buffer: *mut u16, length: usize) -> Answer;
+        pub fn sawhekonu_first_operation_involving_qubit(dag: CircuitDag, qubit: usize) -> Answer;
+        pub fn sawhekonu_last_operation_involving_qubit(dag: CircuitDag, qubit: usize) -> Answer;
+        pub fn sawhekonu_first_operation_involving_classical(dag: CircuitDag, name: usize, index: usize) -> Answer;
+        pub fn sawhekonu_last_operation_involving_classical(dag: CircuitDag, name: usize, index: usize) -> Answer;
         pub fn sawhekonu_locate_record(file: *const u8, length: usize, i: usize) -> PlaceAnswer;
     }
 }
@@ -205,6 +229,38 @@ impl CircuitDag {
 
     pub fn whole_walk(&self, buffer: &mut [u16]) -> Answer {
         unsafe { library::sawhekonu_whole_walk(*self, buffer.as_mut_ptr(), buffer.len()) }
+    }
+
+    pub fn get(&self, node: usize) -> NodeAnswer {
+        unsafe { library::sawhekonu_get(*self, node) }
+    }
+
+    pub fn commuting_operations(&self, buffer: &mut [u16]) -> Answer {
+        unsafe { library::sawhekonu_commuting_operations(*self, buffer.as_mut_ptr(), buffer.len()) }
+    }
+
+    pub fn first_parallel_block(&self, buffer: &mut [u16]) -> Answer {
+        unsafe { library::sawhekonu_first_parallel_block(*self, buffer.as_mut_ptr(), buffer.len()) }
+    }
+
+    pub fn last_parallel_block(&self, buffer: &mut [u16]) -> Answer {
+        unsafe { library::sawhekonu_last_parallel_block(*self, buffer.as_mut_ptr(), buffer.len()) }
+    }
+
+    pub fn first_operation_involving_qubit(&self, qubit: usize) -> Answer {
+        unsafe { library::sawhekonu_first_operation_involving_qubit(*self, qubit) }
+    }
+
+    pub fn last_operation_involving_qubit(&self, qubit: usize) -> Answer {
+        unsafe { library::sawhekonu_last_operation_involving_qubit(*self, qubit) }
+    }
+
+    pub fn first_operation_involving_classical(&self, name: usize, index: usize) -> Answer {
+        unsafe { library::sawhekonu_first_operation_involving_classical(*self, name, index) }
+    }
+
+    pub fn last_operation_involving_classical(&self, name: usize, index: usize) -> Answer {
+        unsafe { library::sawhekonu_last_operation_involving_classical(*self, name, index) }
     }
 
     pub fn chain(&self, buffer: &mut [u16]) -> Answer {
