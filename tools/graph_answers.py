@@ -22,7 +22,8 @@ class Graph:
     """The state of document 01's "Insertion"; an end is 0 (back: last) or 1 (front: first)."""
 
     def __init__(self):
-        self.places, self.kinds, self.operations, self.edges = [], [], [], set()
+        self.places, self.kinds, self.kept, self.operations, self.edges = [], [], [], [], set()
+        self.commuting = []
         self.map, self.all, self.block = [{}, {}], [None, None], [set(), set()]
         self.registers, self.counts = [{}, {}], [0, 0]
 
@@ -92,6 +93,9 @@ class Graph:
             self.map, self.all, self.block = ends
         self.operations.append(qubits is not None)
         self.kinds.append(r[1])
+        self.kept.append((r[1], r[2], number(r, 12, 2)))
+        if 1 <= r[1] <= 4 or (r[2] == 0 and r[11] == 0):
+            self.commuting.append(v)
         self.places.append(self.counts[0] if end == 0 else -self.counts[1] - 1)
         self.counts[end] += 1
         return v
@@ -247,6 +251,21 @@ def asked_of_graph(g, sound, size):
     asked("to_circuit", size, None, tests, g.circuit)
     asked("chain", size, None, tests, g.chain)
     asked("whole_walk", size, len(found), tests, lambda: [numbers.get(v, 65535) for v in range(len(g.places))])
+    asked("commuting_operations", size, None, tests, lambda: g.commuting)
+    asked("first_parallel_block", size, None, tests, lambda: sorted(g.block[1]))
+    asked("last_parallel_block", size, None, tests, lambda: sorted(g.block[0]))
+
+
+def asked_of_entries(g, sound, absent):
+    """What a graph holds at single places: nodes, qubits, register keys."""
+    for v in (0, 2, absent, 65535):
+        there = v < len(g.places)
+        print(f"get {v}:", "refused 11" if not sound else " ".join(map(str, (*g.kept[v], g.places[v]))) if there else "refused 8")
+    for what, keys, first, last in [("qubit", (0, 3, 63, 64, 255), g.map[1], g.map[0]),
+                                    ("key", ((1, 0), (1, 1), (2, 0), (255, 65535)), g.registers[1], g.registers[0])]:
+        for key in keys:
+            named = " ".join(map(str, key)) if what == "key" else key
+            print(f"{what} {named}:", *([m.get(key, "none") for m in (first, last)] if sound else ["refused 11"] * 2))
 
 
 def asked_to_step(g, sound, state, size):
@@ -282,6 +301,7 @@ def queries():
                     state = asked_to_step(g, sound, state, size)
             for v in (0, absent):
                 asked_to_step(g, sound, ({v}, set()), 512)
+            asked_of_entries(g, sound, absent)
 
 
 def main(words):

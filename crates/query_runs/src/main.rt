@@ -1,11 +1,15 @@
-// Queries, steps, walks, chains and conversions on several circuits, each with buffers that are too short, one too short and long, on nodes that are there
+// Queries, accessors, steps, walks, chains and conversions on several circuits, each with buffers that are too short, one too short and long, on nodes that are there
 // and absent, and on a graph that is not sound. On standard input each circuit file stands behind its length in two bytes, little-endian.
 // Beside each answer stands the start of the lent buffer, which held 9999. tools/graph_answers.py computes the same from document 01.
+use accessors::Got;
+use accessors::Operation;
 use file::Outcome;
 use file::Refusal;
 use file::RefusalValue;
+use file::RegisterKey;
 use graph::CircuitDag;
 use graph::NodeIndex;
+use graph::Qubit;
 use libc::STDIN_FILENO;
 use libc::STDOUT_FILENO;
 use queries::Query;
@@ -134,6 +138,96 @@ fn probe_graph(g: CircuitDag, buffer: &mut [u16]) {
     print_buffer(&*buffer);
 }
 
+// The lists that a graph holds.
+fn probe_lists(g: CircuitDag, buffer: &mut [u16]) {
+    fill(&mut *buffer);
+    let x = accessors::commuting_operations(g, &mut *buffer);
+    print_query(b"commuting_operations", x, &*buffer);
+    fill(&mut *buffer);
+    let y = accessors::first_parallel_block(g, &mut *buffer);
+    print_query(b"first_parallel_block", y, &*buffer);
+    fill(&mut *buffer);
+    let z = accessors::last_parallel_block(g, &mut *buffer);
+    print_query(b"last_parallel_block", z, &*buffer);
+}
+
+// A place, with its sign.
+fn print_place(place: i16) {
+    if place < 0 {
+        print(b" -");
+        let k = (!place) as usize;
+        if k < 512 {
+            io::print_decimal(STDOUT_FILENO, (k + 1) as u64);
+        }
+        return;
+    }
+    print_number(place as usize);
+}
+
+// What a node keeps.
+fn probe_get(g: CircuitDag, v: u16) {
+    print(b"get");
+    print_number(file::to_index(v));
+    print(b":");
+    let got = accessors::get(g, NodeIndex(v));
+    match got {
+        Got::Node(n) => {
+            print_number(n.kind as usize);
+            print_number(n.form as usize);
+            print_number(file::to_index(n.label));
+            print_place(n.place);
+        }
+        Got::Refused(r) => print_refusal(r),
+    }
+    print(b"\n");
+}
+
+fn print_operation(x: Operation) {
+    match x {
+        Operation::Node(v) => print_number(file::to_index(v.0)),
+        Operation::None => print(b" none"),
+        Operation::Refused(r) => print_refusal(r),
+    }
+}
+
+// The first and last operation that involve a qubit.
+fn probe_qubit(g: CircuitDag, q: u8) {
+    print(b"qubit");
+    print_number(q as usize);
+    print(b":");
+    print_operation(accessors::first_operation_involving_qubit(g, Qubit(q)));
+    print_operation(accessors::last_operation_involving_qubit(g, Qubit(q)));
+    print(b"\n");
+}
+
+// The first and last operation that involve a register key.
+fn probe_key(g: CircuitDag, name: u8, index: u16) {
+    print(b"key");
+    print_number(name as usize);
+    print_number(file::to_index(index));
+    print(b":");
+    print_operation(accessors::first_operation_involving_classical(g, RegisterKey { name, index }));
+    print_operation(accessors::last_operation_involving_classical(g, RegisterKey { name, index }));
+    print(b"\n");
+}
+
+// What a graph holds at single places.
+fn probe_entries(g: CircuitDag, v: usize) {
+    probe_get(g, 0);
+    probe_get(g, 2);
+    probe_get(g, (v % 65536) as u16);
+    probe_get(g, 65535);
+    probe_qubit(g, 0);
+    probe_qubit(g, 3);
+    probe_qubit(g, 63);
+    probe_qubit(g, 64);
+    probe_qubit(g, 255);
+    probe_key(g, 1, 0);
+    probe_key(g, 1, 1);
+    probe_key(g, 2, 0);
+    probe_key(g, 255, 65535);
+}
+
 // How many nodes a set has.
 fn count_marks(marks: [bool; 512]) -> usize {
     let mut k: usize = 0;
@@ -204,6 +298,7 @@ fn probe_with(g: CircuitDag, v: usize, buffer: &mut [u16]) {
     probe_both(g, last, &mut *buffer);
     probe_both(g, 65535, &mut *buffer);
     probe_graph(g, &mut *buffer);
+    probe_lists(g, &mut *buffer);
 }
 
 // Everything on one graph: with no buffer, buffers of one and two entries, and a long one.
@@ -219,6 +314,7 @@ fn probe(g: CircuitDag, v: usize) {
     probe_walk(g, &mut long);
     probe_current(g, 0, &mut long);
     probe_current(g, v, &mut long);
+    probe_entries(g, v);
 }
 
 // A circuit file: its graph, then the same with one back insertion too many, which is not sound.
