@@ -19,8 +19,8 @@ use Rattle.graph.specs.declared.Edges.{Edges}
 use Rattle.graph.specs.declared.Registers.{Registers}
 use Rattle.graph.specs.Dag.{Edge, Entry, edgeAt, entryAt, entry, sameEdge, sameKey}
 use Rattle.graph.specs.Soundness.{ifPresent, samePlace, ascends, keysDistinct}
-use Rattle.file.proofs.BoolLaws.{clash-bool, not-true, not-false, bool-ext, and-l, and-r, and-intro, and-cases, or-cases, or-l, or-r, flip-not, split-lt}
-use Rattle.graph.proofs.BitLaws.{markAt, MarkedBits, bits-more, no-bits}
+use Rattle.file.proofs.BoolLaws.{bool-cases, clash-bool, not-true, not-false, bool-ext, and-l, and-r, and-intro, and-cases, or-cases, or-l, or-r, flip-not, split-lt}
+use Rattle.graph.proofs.BitLaws.{markAt, MarkedBits, bits-more, no-words, no-bits}
 use Rattle.graph.proofs.ListLaws.{at-any, at-none, at-all, all-at, all-here, all-fails, upTo-all, all-upTo, upTo-distinct, distinct-upTo, upTo-any, any-upTo, upTo-none, members-all, all-members}
 use Rattle.graph.proofs.PlaceLaws.{place-read}
 use Rattle.graph.proofs.SoundnessLaws.{same-told, told-same, ascends-taken, all-taken, taken-ascends, taken-all}
@@ -194,14 +194,13 @@ abbrev pub edgesClause : Edges → ℕ → List ℤ → List Bool → Bool
 edgesClause es n place op = distinct sameEdge (map (edgeAt es) (upTo (es .count)))
     && allOf (λ (e : Edge). ltb (e .from) n && ltb (e .to) n && (getD op (e .from) false && getD op (e .to) false && ltZ (getD place (e .from) (pos 0)) (getD place (e .to) (pos 0)))) (map (edgeAt es) (upTo (es .count)))
 
-pub record EdgesPassed (es : Edges) (n : ℕ) (place : List ℤ) (op into : List Bool) (seen : List ℕ) (i : ℕ) : Type 0 where
+-- the first i edges fit, into has their targets, and no two of them are the same
+pub record EdgesApart (es : Edges) (n : ℕ) (place : List ℤ) (op into : List Bool) (i : ℕ) : Type 0 where
   pub room : es .count ≤ 2048
   pub fit : n ≤ 512
   pub low : i ≤ es .count
-  pub long : length seen ≡ 4096
   pub broad : length into ≡ 512
   pub each : (j : ℕ) → j < i → edgeTest n place op (fromAt es j) (toAt es j) ≡ true
-  pub marks : MarkedBits (cellAt es) i seen
   pub targets : Marked (toAt es) i into
   pub apart : (j k : ℕ) → j < k → k < i → fromAt es j ≡ fromAt es k → toAt es j ≡ toAt es k → ⊥
 
@@ -222,21 +221,19 @@ to-low n place op f t h =
     let x = getD op f false && getD op t false && ltZ (getD place f (pos 0)) (getD place t (pos 0)) in
     ltb-true t n (and-r (ltb f n) (ltb t n) (and-l (ltb f n && ltb t n) x h))
 
-pub edges-begin : (es : Edges) (n : ℕ) (place : List ℤ) (op into : List Bool) → es .count ≤ 2048 → n ≤ 512 → into ≡ replicate 512 false
-    → EdgesPassed es n place op into (replicate 4096 0) 0
-edges-begin es n place op into r f e = record {
+pub edges-none : (es : Edges) (n : ℕ) (place : List ℤ) (op into : List Bool) → es .count ≤ 2048 → n ≤ 512 → into ≡ replicate 512 false
+    → EdgesApart es n place op into 0
+edges-none es n place op into r f e = record {
   room = r;
   fit = f;
   low = omega arith;
-  long = length-replicate {A = ℕ} 4096 0;
   broad = ap length e ∙ length-replicate 512 false;
   each = λ j k. absurd (omega arith);
-  marks = no-bits (cellAt es) 4096;
   targets = rw e (none-marked (toAt es) 512);
   apart = λ j k a b. absurd (omega arith);
 }
 
-module _ {es : Edges} {n : ℕ} {place : List ℤ} {op into : List Bool} {seen : List ℕ} {i : ℕ} (I : EdgesPassed es n place op into seen i) where
+module _ {es : Edges} {n : ℕ} {place : List ℤ} {op into : List Bool} {i : ℕ} (I : EdgesApart es n place op into i) where
   abbrev ET : Edge → Bool
   ET e = edgeTest n place op (e .from) (e .to)
 
@@ -246,42 +243,23 @@ module _ {es : Edges} {n : ℕ} {place : List ℤ} {op into : List Bool} {seen :
       let z : edgeTest n place op (fromAt es i) (toAt es i) ≡ false = rw (p, q) at e in
       clash-bool w z))
 
-  pub edge-twice : (f t : ℕ) → i < es .count → f ≡ fromAt es i → t ≡ toAt es i → edgeTest n place op f t ≡ true → markAt seen (f * 512 + t) ≡ true
-      → false ≡ edgesClause es n place op
-  edge-twice f t k p q e s = sym (not-true (λ h.
-      let r = I .marks .only (f * 512 + t) s in
-      let j = r .0 in
-      let d = distinct-upTo sameEdge (edgeAt es) (es .count) (and-l (distinct sameEdge (edgesList es)) (allOf ET (edgesList es)) h) j i (r .1) k in
-      let a = to-low n place op (fromAt es j) (toAt es j) (I .each j (r .1)) in
+  -- one more edge, which is none of those before it
+  pub apart-more : (f t : ℕ) → i < es .count → f ≡ fromAt es i → t ≡ toAt es i → edgeTest n place op f t ≡ true
+      → ((j : ℕ) → j < i → fromAt es j ≡ f → toAt es j ≡ t → ⊥) → EdgesApart es n place op (set into t true) (i + 1)
+  apart-more f t k p q e new =
       let b = to-low n place op f t e in
-      let x : fromAt es j ≡ f = cell-from (fromAt es j) (toAt es j) f t (omega (arith, a, I .fit)) (omega (arith, b, I .fit)) (r .2) in
-      let y : toAt es j ≡ t = cell-to (fromAt es j) (toAt es j) f t (omega (arith, a, I .fit)) (omega (arith, b, I .fit)) (r .2) in
-      clash-bool (and-intro (eqb (fromAt es j) (fromAt es i)) (eqb (toAt es j) (toAt es i)) (eq-eqb _ _ (x ∙ p)) (eq-eqb _ _ (y ∙ q))) d))
-
-  pub edge-more : (f t : ℕ) → i < es .count → f ≡ fromAt es i → t ≡ toAt es i → edgeTest n place op f t ≡ true → markAt seen (f * 512 + t) ≡ false
-      → EdgesPassed es n place op (set into t true) (set seen ((f * 512 + t) / 64) (getD seen ((f * 512 + t) / 64) 0 + 2 ^ ((f * 512 + t) % 64))) (i + 1)
-  edge-more f t k p q e s =
-      let b = to-low n place op f t e in
-      let a = from-low n place op f t e in
-      let z : f * 512 + t ≡ cellAt es i = rw (← p, ← q) refl in
       record {
         room = I .room;
         fit = I .fit;
         low = omega arith;
-        long = length-set seen ((f * 512 + t) / 64) _ ∙ I .long;
         broad = length-set into t true ∙ I .broad;
         each = λ j m. ⊎-elim
             (λ (x : j ≡ i). rw (x, ← p, ← q) e)
             (λ (x : j < i). I .each j x)
             (split-lt j i m);
-        marks = rw z (bits-more (cellAt es) i seen (omega (arith, z, a, b, I .fit, I .long)) (sym (ap (markAt seen) z) ∙ s) (I .marks));
         targets = rw q (mark-more (toAt es) i into (omega (arith, q, b, I .fit, I .broad)) (I .targets));
         apart = λ j m x y u v. ⊎-elim
-            (λ (w : m ≡ i).
-            let u′ : fromAt es j ≡ fromAt es i = u ∙ ap (fromAt es) w in
-            let v′ : toAt es j ≡ toAt es i = v ∙ ap (toAt es) w in
-            let c : cellAt es j ≡ f * 512 + t = rw (u′, v′, ← p, ← q) refl in
-            clash-bool (I .marks .done j (omega arith)) (ap (markAt seen) c ∙ s))
+            (λ (w : m ≡ i). new j (omega arith) (u ∙ ap (fromAt es) w ∙ sym p) (v ∙ ap (toAt es) w ∙ sym q))
             (λ (w : m < i). I .apart j m x w u v)
             (split-lt m i y);
       }
@@ -299,6 +277,126 @@ module _ {es : Edges} {n : ℕ} {place : List ℤ} {op into : List Bool} {seen :
       (λ h. let r = any-upTo (λ (e : Edge). eqb (e .to) v) (edgeAt es) (es .count) h in
       let x : toAt es (r .0) ≡ v = eqb-true (toAt es (r .0)) v (r .2) in
       ap (λ (y : ℕ). getD into y false) (sym x) ∙ I .targets .done (r .0) (omega (arith, r .1)))
+
+-- ---- edges in any order: each has marked its bit
+
+pub record EdgesPassed (es : Edges) (n : ℕ) (place : List ℤ) (op into : List Bool) (seen : List ℕ) (i : ℕ) : Type 0 where
+  pub passed : EdgesApart es n place op into i
+  pub long : length seen ≡ 4096
+  pub marks : MarkedBits (cellAt es) i seen
+
+pub edges-begin : (es : Edges) (n : ℕ) (place : List ℤ) (op into : List Bool) → es .count ≤ 2048 → n ≤ 512 → into ≡ replicate 512 false
+    → EdgesPassed es n place op into (replicate 4096 0) 0
+edges-begin es n place op into r f e = record {
+  passed = edges-none es n place op into r f e;
+  long = length-replicate {A = ℕ} 4096 0;
+  marks = no-bits (cellAt es) 4096;
+}
+
+module _ {es : Edges} {n : ℕ} {place : List ℤ} {op into : List Bool} {seen : List ℕ} {i : ℕ} (I : EdgesPassed es n place op into seen i) where
+  abbrev EP : Edge → Bool
+  EP e = edgeTest n place op (e .from) (e .to)
+
+  pub edge-twice : (f t : ℕ) → i < es .count → f ≡ fromAt es i → t ≡ toAt es i → edgeTest n place op f t ≡ true → markAt seen (f * 512 + t) ≡ true
+      → false ≡ edgesClause es n place op
+  edge-twice f t k p q e s = sym (not-true (λ h.
+      let r = I .marks .only (f * 512 + t) s in
+      let j = r .0 in
+      let d = distinct-upTo sameEdge (edgeAt es) (es .count) (and-l (distinct sameEdge (edgesList es)) (allOf EP (edgesList es)) h) j i (r .1) k in
+      let a = to-low n place op (fromAt es j) (toAt es j) (I .passed .each j (r .1)) in
+      let b = to-low n place op f t e in
+      let x : fromAt es j ≡ f = cell-from (fromAt es j) (toAt es j) f t (omega (arith, a, I .passed .fit)) (omega (arith, b, I .passed .fit)) (r .2) in
+      let y : toAt es j ≡ t = cell-to (fromAt es j) (toAt es j) f t (omega (arith, a, I .passed .fit)) (omega (arith, b, I .passed .fit)) (r .2) in
+      clash-bool (and-intro (eqb (fromAt es j) (fromAt es i)) (eqb (toAt es j) (toAt es i)) (eq-eqb _ _ (x ∙ p)) (eq-eqb _ _ (y ∙ q))) d))
+
+  pub edge-more : (f t : ℕ) → i < es .count → f ≡ fromAt es i → t ≡ toAt es i → edgeTest n place op f t ≡ true → markAt seen (f * 512 + t) ≡ false
+      → EdgesPassed es n place op (set into t true) (set seen ((f * 512 + t) / 64) (getD seen ((f * 512 + t) / 64) 0 + 2 ^ ((f * 512 + t) % 64))) (i + 1)
+  edge-more f t k p q e s =
+      let b = to-low n place op f t e in
+      let a = from-low n place op f t e in
+      let z : f * 512 + t ≡ cellAt es i = rw (← p, ← q) refl in
+      record {
+        passed = apart-more (I .passed) f t k p q e (λ j m u v.
+            let c : cellAt es j ≡ f * 512 + t = rw (u, v) refl in
+            clash-bool (I .marks .done j m) (ap (markAt seen) c ∙ s));
+        long = length-set seen ((f * 512 + t) / 64) _ ∙ I .long;
+        marks = rw z (bits-more (cellAt es) i seen (omega (arith, z, a, b, I .passed .fit, I .long)) (sym (ap (markAt seen) z) ∙ s) (I .marks));
+      }
+
+-- ---- edges in the order of their newer nodes: each cell keeps its last newer node, plus 1
+
+abbrev pub newerEnd : ℕ → ℕ → ℕ
+newerEnd f t = cond (ltb t f) f t
+
+abbrev pub olderCell : ℕ → ℕ → ℕ
+olderCell f t = cond (ltb t f) (2 * t + 1) (2 * f)
+
+pub record EdgesOrdered (es : Edges) (n : ℕ) (place : List ℤ) (op into : List Bool) (stamps : List ℕ) (last i : ℕ) : Type 0 where
+  pub passed : EdgesApart es n place op into i
+  pub long : length stamps ≡ 1024
+  pub stamped : (j : ℕ) → j < i → newerEnd (fromAt es j) (toAt es j) < getD stamps (olderCell (fromAt es j) (toAt es j)) 0
+  pub latest : (c : ℕ) → getD stamps c 0 ≤ last + 1
+
+pub newer-low : (f t : ℕ) → f < 512 → t < 512 → newerEnd f t < 512
+newer-low f t a b = ⊎-elim
+    (λ (e : ltb t f ≡ true). rw e a)
+    (λ (e : ltb t f ≡ false). rw e b)
+    (bool-cases (ltb t f))
+
+pub older-low : (f t : ℕ) → f < 512 → t < 512 → olderCell f t < 1024
+older-low f t a b = ⊎-elim
+    (λ (e : ltb t f ≡ true). rw e (omega arith))
+    (λ (e : ltb t f ≡ false). rw e (omega arith))
+    (bool-cases (ltb t f))
+
+pub order-begin : (es : Edges) (n : ℕ) (place : List ℤ) (op into : List Bool) → es .count ≤ 2048 → n ≤ 512 → into ≡ replicate 512 false
+    → EdgesOrdered es n place op into (replicate 1024 0) 0 0
+order-begin es n place op into r f e = record {
+  passed = edges-none es n place op into r f e;
+  long = length-replicate {A = ℕ} 1024 0;
+  stamped = λ j k. absurd (omega arith);
+  latest = λ c. omega (arith, no-words 1024 c);
+}
+
+-- w is the newer node of the edge in turn, and its cell c has no stamp of w
+pub order-more : {es : Edges} {n : ℕ} {place : List ℤ} {op into : List Bool} {stamps : List ℕ} {last i : ℕ}
+    → EdgesOrdered es n place op into stamps last i → (f t w c : ℕ) → i < es .count → f ≡ fromAt es i → t ≡ toAt es i → edgeTest n place op f t ≡ true
+    → w ≡ newerEnd f t → c ≡ olderCell f t → last ≤ w → (getD stamps c 0 ≡ w + 1 → ⊥)
+    → EdgesOrdered es n place op (set into t true) (set stamps c (w + 1)) w (i + 1)
+order-more {es} {n} {place} {op} {into} {stamps} {last} {i} I f t w c k p q e hw hc ord new =
+    let C : ℕ → ℕ = λ j. olderCell (fromAt es j) (toAt es j) in
+    let W : ℕ → ℕ = λ j. newerEnd (fromAt es j) (toAt es j) in
+    let a = from-low n place op f t e in
+    let b = to-low n place op f t e in
+    let low : c < 1024 = omega (arith, hc, older-low f t (omega (arith, a, I .passed .fit)) (omega (arith, b, I .passed .fit))) in
+    let same = getD-set-same stamps c (w + 1) 0 (omega (arith, low, I .long)) in
+    record {
+      passed = apart-more (I .passed) f t k p q e (λ j m u v.
+          let x : C j ≡ c = (λ s. olderCell (u s) (v s)) ∙ sym hc in
+          let y : W j ≡ w = (λ s. newerEnd (u s) (v s)) ∙ sym hw in
+          let z : W j < getD stamps c 0 = rw x at (I .stamped j m) in
+          new (omega (arith, y, z, I .latest c)));
+      long = length-set stamps c (w + 1) ∙ I .long;
+      stamped = λ j m. ⊎-elim
+          (λ (x : j ≡ i).
+          let u : C j ≡ c = rw (x, ← p, ← q) (sym hc) in
+          let v : W j ≡ w = rw (x, ← p, ← q) (sym hw) in
+          let g : getD (set stamps c (w + 1)) (C j) 0 ≡ w + 1 = ap (λ (y : ℕ). getD (set stamps c (w + 1)) y 0) u ∙ same in
+          omega (arith, g, v))
+          (λ (x : j < i). elim (ℕ-discrete (C j) c) [
+            | yes u ↦
+                let g : getD (set stamps c (w + 1)) (C j) 0 ≡ w + 1 = ap (λ (y : ℕ). getD (set stamps c (w + 1)) y 0) u ∙ same in
+                omega (arith, g, I .stamped j x, I .latest (C j))
+            | no u ↦ omega (arith, getD-set-other stamps c (C j) (w + 1) 0 u, I .stamped j x)
+          ])
+          (split-lt j i m);
+      latest = λ d. elim (ℕ-discrete d c) [
+        | yes u ↦
+            let g : getD (set stamps c (w + 1)) d 0 ≡ w + 1 = ap (λ (y : ℕ). getD (set stamps c (w + 1)) y 0) u ∙ same in
+            omega (arith, g)
+        | no u ↦ omega (arith, getD-set-other stamps c d (w + 1) 0 u, I .latest d)
+      ];
+    }
 
 -- ---- the names of an end
 
@@ -498,6 +596,16 @@ pub record RegistersPassed (r : Registers) (n : ℕ) (cells : List Bool) (i : �
   pub below : (j : ℕ) → j < i → getD (r .node) j 0 < n
   pub marks : Marked (cellOf r) i cells
   pub apart : (j k : ℕ) → j < k → k < i → sameKey (entryAt r j) (entryAt r k) ≡ false
+
+pub registers-begin : (r : Registers) (n : ℕ) → r .count ≤ 256 → RegistersPassed r n (replicate 2048 false) 0
+registers-begin r n h = record {
+  room = h;
+  low = omega arith;
+  long = length-replicate 2048 false;
+  below = λ j k. absurd (omega arith);
+  marks = none-marked (cellOf r) 2048;
+  apart = λ j k a b. absurd (omega arith);
+}
 
 module _ {r : Registers} {n : ℕ} {cells : List Bool} {i : ℕ} (I : RegistersPassed r n cells i) where
   abbrev N : Entry → Bool

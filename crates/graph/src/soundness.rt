@@ -217,6 +217,97 @@ fn edges_fit(
     true
 }
 
+// The larger number of an edge's two nodes, that of the node inserted later.
+fn newer_end(from: NodeIndex, to: NodeIndex) -> u16
+    ensures { λ r. ⌜ r ≡ cond (ltb (to .0) (from .0)) (from .0) (to .0) ⌝ }
+{
+    if to.0 < from.0 {
+        return from.0;
+    }
+    to.0
+}
+
+// A cell for the older node and the direction: different edges of one newer node have different cells.
+fn older_cell(from: NodeIndex, to: NodeIndex) -> usize
+    requires { ⌜ (from .0 < 512) × (to .0 < 512) ⌝ }
+    ensures { λ r. ⌜ r ≡ cond (ltb (to .0) (from .0)) (2 * to .0 + 1) (2 * from .0) ⌝ }
+{
+    if to.0 < from.0 {
+        return 2 * (to.0 as usize) + 1;
+    }
+    2 * (from.0 as usize)
+}
+
+// Every edge fits and no two are the same, for edges in the order in which insertion makes them, that of their newer
+// ends: a cell's stamp is the newer end of its last edge, plus 1. into gets the targets. With 2 KB of stamps it is quicker
+// than edges_fit, which decides where this says no.
+fn edges_fit_in_order(
+    es: Edges,
+    n: usize,
+    place: &[i16; 512],
+    op: &[bool; 512],
+    into: &mut [bool; 512],
+) -> bool
+    requires { ⌜ (es .count ≤ 2048) × (n ≤ 512) × (now into ≡ replicate 512 false) ⌝ }
+    ensures { λ r. ⌜ (r ≡ true → (distinct sameEdge (map (edgeAt es) (upTo (es .count)))
+        && allOf (λ (e : Edge). ltb (e .from) n && ltb (e .to) n
+        && (getD (now (op .entry)) (e .from) false && getD (now (op .entry)) (e .to) false
+        && ltZ (getD (now (place .entry)) (e .from) (pos 0)) (getD (now (place .entry)) (e .to) (pos 0))))
+        (map (edgeAt es) (upTo (es .count)))) ≡ true)
+        × (r ≡ true → (v : ℕ) → getD (now (into .exit)) v false
+        ≡ anyOf (λ (e : Edge). eqb (e .to) v) (map (edgeAt es) (upTo (es .count)))) ⌝ }
+{
+    let mut stamps = [0u16; 1024];
+    let mut last: u16 = 0;
+    let m = es.count;
+    let mut i: usize = 0;
+    while i < m {
+        let from = NodeIndex(es.from[i]);
+        let to = NodeIndex(es.to[i]);
+        if !edge_fits(from, to, n, place, op) {
+            return false;
+        }
+        let newer = newer_end(from, to);
+        if newer < last {
+            return false;
+        }
+        let cell = older_cell(from, to);
+        let stamp = newer + 1;
+        if stamps[cell] == stamp {
+            return false;
+        }
+        stamps[cell] = stamp;
+        last = newer;
+        into[to.0 as usize] = true;
+        i += 1;
+    }
+    true
+}
+
+// Every edge fits and no two are the same; into gets the targets. The edges of a built graph pass at the first look.
+fn edges_pass(
+    es: Edges,
+    n: usize,
+    place: &[i16; 512],
+    op: &[bool; 512],
+    into: &mut [bool; 512],
+) -> bool
+    requires { ⌜ (es .count ≤ 2048) × (n ≤ 512) × (now into ≡ replicate 512 false) ⌝ }
+    ensures { λ r. ⌜ (r ≡ (distinct sameEdge (map (edgeAt es) (upTo (es .count)))
+        && allOf (λ (e : Edge). ltb (e .from) n && ltb (e .to) n
+        && (getD (now (op .entry)) (e .from) false && getD (now (op .entry)) (e .to) false
+        && ltZ (getD (now (place .entry)) (e .from) (pos 0)) (getD (now (place .entry)) (e .to) (pos 0))))
+        (map (edgeAt es) (upTo (es .count)))))
+        × (r ≡ true → (v : ℕ) → getD (now (into .exit)) v false
+        ≡ anyOf (λ (e : Edge). eqb (e .to) v) (map (edgeAt es) (upTo (es .count)))) ⌝ }
+{
+    if edges_fit_in_order(es, n, place, op, into) {
+        return true;
+    }
+    *into = [false; 512];
+    edges_fit(es, n, place, op, into)
+}
+
 // An entry that may be absent names a qubit operation of the graph.
 fn names_operation(x: NodeIndex, n: usize, op: &[bool; 512]) -> bool
     requires { ⌜ n ≤ 512 ⌝ }
@@ -361,10 +452,13 @@ fn registers_fit(r: Registers, n: usize) -> bool
     requires { ⌜ r .count ≤ 256 ⌝ }
     ensures { λ res. ⌜ res ≡ (keysDistinct r && allOf (λ (x : Entry). ltb (x .node) n) (map (entryAt r) (upTo (r .count)))) ⌝ }
 {
+    let m = r.count;
+    if m == 0 {
+        return true;
+    }
     let mut cells = [false; 2048];
     let name = r.name;
     let index = r.index;
-    let m = r.count;
     let mut i: usize = 0;
     while i < m {
         if n <= file::to_index(r.node[i]) {
@@ -457,7 +551,7 @@ pub fn is_sound(g: CircuitDag) -> bool
     let form = g.nodes.form;
     let op = operations(&kind, &form);
     let mut into = no_marks();
-    if !edges_fit(edges, n, &place, &op, &mut into) {
+    if !edges_pass(edges, n, &place, &op, &mut into) {
         return false;
     }
     let first_end = g.first;

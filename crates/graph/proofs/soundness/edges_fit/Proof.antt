@@ -31,7 +31,7 @@ tested c = sym (c .before .edge-fits .ensures) ∙ not-false _ (c .if1 .left)
 low : (c : tie.Else1 Inv-loop μ-loop) → (from-of (c .before .before .before .before .before) < 512) × (to-of (c .before .before .before .before .before) < 512)
 low c =
     let a = c .before .before .before .before .before .before .args in
-    let fit = c .before .before .before .before .before .loop .inv .fit in
+    let fit = c .before .before .before .before .before .loop .inv .passed .fit in
     (omega (arith, from-low (a .n) (a .place .now) (a .op .now) _ _ (tested c)), omega (arith, to-low (a .n) (a .place .now) (a .op .now) _ _ (tested c)))
 
 loop-holds : tie.Need-loop-holds Inv-loop μ-loop
@@ -50,10 +50,10 @@ element-copy-out-t21-2 : tie.Need-element-copy-out-t21-2 Inv-loop μ-loop
 element-copy-out-t21-2 c = search needs
 
 edge-fits-requires : tie.Need-edge-fits-requires Inv-loop μ-loop
-edge-fits-requires c κs = c .before .before .before .loop .inv .fit
+edge-fits-requires c κs = c .before .before .before .loop .inv .passed .fit
 
 returns : tie.Need-returns Inv-loop μ-loop
-returns c = (edge-unfit (c .before .before .before .before .before .loop .inv) _ _ (c .before .before .before .before .loop-test .taken) refl refl (sym (c .before .edge-fits .ensures) ∙ not-true _ (c .if1 .taken)), λ (h : false ≡ true). absurd (clash-bool refl (sym h)))
+returns c = (edge-unfit (c .before .before .before .before .before .loop .inv .passed) _ _ (c .before .before .before .before .loop-test .taken) refl refl (sym (c .before .edge-fits .ensures) ∙ not-true _ (c .if1 .taken)), λ (h : false ≡ true). absurd (clash-bool refl (sym h)))
 
 cast-f : tie.Need-cast-f Inv-loop μ-loop
 cast-f c = search needs
@@ -104,7 +104,7 @@ loop-again : tie.Need-loop-again Inv-loop μ-loop
 loop-again c = rw (c .with-bit .ensures) (edge-more (c .before .before .before .before .before .before .before .before .before .before .loop .inv) _ _ (c .before .before .before .before .before .before .before .before .before .loop-test .taken) refl refl (tested (c .before .before .before .before .before)) (sym (c .before .before .has-bit .ensures) ∙ c .before .if2 .left))
 
 returns-3 : tie.Need-returns-3 Inv-loop μ-loop
-returns-3 c = let I = c .before .loop .inv in (edges-done I (c .loop-test .left), λ h. targets-done I (c .loop-test .left))
+returns-3 c = let I = c .before .loop .inv .passed in (edges-done I (c .loop-test .left), λ h. targets-done I (c .loop-test .left))
 
 pub edges-fit-spec : {M : Type 1} → statement M
 edges-fit-spec =
