@@ -1,5 +1,6 @@
 // A set of nodes crosses as bytes, 0 or 1 each. Its loops have no branch on a byte, so that the compiler takes many at a time.
 ghost use mathlib.Core.Path.{_≡_};
+ghost use lib.ListN.{length};
 ghost use Rattle.host.specs.Marks.{areMarks, marksOf, bytesOf};
 
 // Whether all bytes are marks.
@@ -15,16 +16,24 @@ pub(crate) fn are_marks(bytes: [u8; 512]) -> bool
     !above
 }
 
-// The marks of the bytes.
-pub(crate) fn marks_of(bytes: [u8; 512]) -> [bool; 512]
-    ensures { λ r. ⌜ r ≡ marksOf bytes ⌝ }
+// The marks become those of the bytes.
+pub(crate) fn set_marks(marks: &mut [bool; 512], bytes: [u8; 512])
+    requires { ⌜ length (now marks) ≡ 512 ⌝ }
+    ensures { λ r. ⌜ now (marks .exit) ≡ marksOf bytes ⌝ }
 {
-    let mut marks = [false; 512];
     let mut v: usize = 0;
     while v < 512 {
         marks[v] = bytes[v] == 1;
         v += 1;
     }
+}
+
+// The marks of the bytes.
+pub(crate) fn marks_of(bytes: [u8; 512]) -> [bool; 512]
+    ensures { λ r. ⌜ r ≡ marksOf bytes ⌝ }
+{
+    let mut marks = [false; 512];
+    set_marks(&mut marks, bytes);
     marks
 }
 

@@ -26,11 +26,10 @@ pub extern "C" fn sawhekonu_execution_blocked(
     if !is_dag(dag) {
         return refuse(Refusal::Unsound);
     }
-    let g = dag_of(dag);
     if 65535 < node {
-        return no_node(g);
+        return no_node(dag_of(dag));
     }
-    let x = queries::execution_blocked(g, executed, NodeIndex(node as u16), buffer);
+    let x = queries::execution_blocked(dag_of(dag), executed, NodeIndex(node as u16), buffer);
     of_query(x)
 }
 
@@ -47,11 +46,10 @@ pub extern "C" fn sawhekonu_blocking_predecessors(
     if !is_dag(dag) {
         return refuse(Refusal::Unsound);
     }
-    let g = dag_of(dag);
     if 65535 < node {
-        return no_node(g);
+        return no_node(dag_of(dag));
     }
-    let x = queries::blocking_predecessors(g, executed, NodeIndex(node as u16), buffer);
+    let x = queries::blocking_predecessors(dag_of(dag), executed, NodeIndex(node as u16), buffer);
     of_query(x)
 }
 
@@ -62,11 +60,10 @@ pub extern "C" fn sawhekonu_successors(dag: HostDag, node: usize, buffer: &mut [
     if !is_dag(dag) {
         return refuse(Refusal::Unsound);
     }
-    let g = dag_of(dag);
     if 65535 < node {
-        return no_node(g);
+        return no_node(dag_of(dag));
     }
-    let x = queries::successors(g, NodeIndex(node as u16), buffer);
+    let x = queries::successors(dag_of(dag), NodeIndex(node as u16), buffer);
     of_query(x)
 }
 
@@ -84,10 +81,9 @@ pub extern "C" fn sawhekonu_new_front_layer(
     if !is_dag(dag) {
         return refuse(Refusal::Unsound);
     }
-    let g = dag_of(dag);
     if 65535 < node {
-        return no_node(g);
+        return no_node(dag_of(dag));
     }
-    let x = queries::new_front_layer(g, executed, layer, NodeIndex(node as u16), buffer);
+    let x = queries::new_front_layer(dag_of(dag), executed, layer, NodeIndex(node as u16), buffer);
     of_query(x)
 }

@@ -29,15 +29,14 @@ pub extern "C" fn sawhekonu_next(dag: HostDag, state: HostWalk, buffer: &mut [u1
             walk: state,
         };
     }
-    let g = dag_of(dag);
     if !is_walk(state) {
         return HostStep {
-            answer: no_node(g),
+            answer: no_node(dag_of(dag)),
             walk: state,
         };
     }
     let w = walk_of(state);
-    let x = w.next(g, buffer);
+    let x = w.next(dag_of(dag), buffer);
     let answer = x.answer;
     let walk = x.walk;
     HostStep {

@@ -22,10 +22,13 @@ no-node-requires : tie.Need-no-node-requires
 no-node-requires c κs = search needs
 
 returns-2 : tie.Need-returns-2
-returns-2 c = let e = c .before .before .before in let m = sym (e .before .is-dag .ensures) ∙ not-false _ (e .if1 .left) in rw (c .no-node .ensures, m, ← c .before .before .dag-of .ensures) (blocked-beyond _ _ _ (c .before .if2 .taken) _)
+returns-2 c = let e = c .before .before .before in let m = sym (e .before .is-dag .ensures) ∙ not-false _ (e .if1 .left) in rw (c .no-node .ensures, m, ← c .before .dag-of .ensures) (blocked-beyond _ _ _ (c .before .before .if2 .taken) _)
 
-cast-t10 : tie.Need-cast-t10
-cast-t10 c = search needs
+dag-of-requires-2 : tie.Need-dag-of-requires-2
+dag-of-requires-2 c κs = search needs
+
+cast-t11 : tie.Need-cast-t11
+cast-t11 c = search needs
 
 execution-blocked-requires : tie.Need-execution-blocked-requires
 execution-blocked-requires c κs = search needs
@@ -37,7 +40,7 @@ same-length : tie.Need-same-length
 same-length c = search needs
 
 returns-3 : tie.Need-returns-3
-returns-3 c = let i = c .before .before .before in let e = i .before .before .before .before in let m = sym (e .before .is-dag .ensures) ∙ not-false _ (e .if1 .left) in rw (c .of-query .ensures, m, ← i .before .before .before .dag-of .ensures, ← i .execution-blocked .ensures) refl
+returns-3 c = let i = c .before .before .before in let e = i .before .before .before .before in let m = sym (e .before .is-dag .ensures) ∙ not-false _ (e .if1 .left) in rw (c .of-query .ensures, m, ← i .before .before .dag-of2 .ensures, ← i .execution-blocked .ensures) refl
 
 pub sawhekonu-execution-blocked-spec : {M : Type 1} → statement M
 sawhekonu-execution-blocked-spec =
@@ -49,7 +52,8 @@ sawhekonu-execution-blocked-spec =
     dag-of-requires
     no-node-requires
     returns-2
-    cast-t10
+    dag-of-requires-2
+    cast-t11
     execution-blocked-requires
     of-query-requires
     same-length
