@@ -2,13 +2,14 @@
 ghost use mathlib.Core.Path.{_≡_};
 ghost use mathlib.Core.Bool.{false};
 ghost use lib.ListN.{replicate};
-ghost use Rattle.host.specs.Marks.{hostEnd, isDag, dagOf, hostOf, isWalk, walkOf, hostWalk};
+ghost use Rattle.host.specs.Marks.{isDag, dagOf, hostOf, isWalk, walkOf, hostWalk};
 use crate::HostDag;
 use crate::HostEnd;
 use crate::HostWalk;
 use crate::marks::are_marks;
 use crate::marks::bytes_of;
 use crate::marks::marks_of;
+use crate::marks::set_bytes;
 use crate::marks::set_marks;
 use graph::CircuitDag;
 use graph::End;
@@ -70,32 +71,35 @@ pub(crate) fn dag_of(dag: HostDag) -> CircuitDag
     g
 }
 
-fn host_end(end: End) -> HostEnd
-    ensures { λ r. ⌜ r ≡ hostEnd end ⌝ }
+// An end as it goes, but for its block, whose bytes are 0.
+fn host_end_without_block(end: End) -> HostEnd
+    ensures { λ r. ⌜ r ≡ record { node = end .node; all = end .all; block = replicate 512 0 } ⌝ }
 {
     let node = end.node;
     let all = end.all;
-    let block = end.block;
     HostEnd {
         node,
         all,
-        block: bytes_of(block),
+        block: [0; 512],
     }
 }
 
+// Its blocks are set in place too.
 pub(crate) fn host_dag(dag: CircuitDag) -> HostDag
     ensures { λ r. ⌜ r ≡ hostOf dag ⌝ }
 {
     let first = dag.first;
     let last = dag.last;
-    let first = host_end(first);
-    let last = host_end(last);
+    let first_block = first.block;
+    let last_block = last.block;
+    let first = host_end_without_block(first);
+    let last = host_end_without_block(last);
     let nodes = dag.nodes;
     let edges = dag.edges;
     let first_registers = dag.first_registers;
     let last_registers = dag.last_registers;
     let commuting = dag.commuting;
-    HostDag {
+    let mut d = HostDag {
         nodes,
         edges,
         first,
@@ -105,7 +109,10 @@ pub(crate) fn host_dag(dag: CircuitDag) -> HostDag
         commuting,
         backs: dag.backs,
         fronts: dag.fronts,
-    }
+    };
+    set_bytes(&mut d.first.block, first_block);
+    set_bytes(&mut d.last.block, last_block);
+    d
 }
 
 // Whether the bytes of both sets are marks.

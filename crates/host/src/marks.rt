@@ -37,15 +37,23 @@ pub(crate) fn marks_of(bytes: [u8; 512]) -> [bool; 512]
     marks
 }
 
-// The bytes of the marks.
-pub(crate) fn bytes_of(marks: [bool; 512]) -> [u8; 512]
-    ensures { λ r. ⌜ r ≡ bytesOf marks ⌝ }
+// The bytes become those of the marks.
+pub(crate) fn set_bytes(bytes: &mut [u8; 512], marks: [bool; 512])
+    requires { ⌜ length (now bytes) ≡ 512 ⌝ }
+    ensures { λ r. ⌜ now (bytes .exit) ≡ bytesOf marks ⌝ }
 {
-    let mut bytes = [0u8; 512];
     let mut v: usize = 0;
     while v < 512 {
         bytes[v] = marks[v] as u8;
         v += 1;
     }
+}
+
+// The bytes of the marks.
+pub(crate) fn bytes_of(marks: [bool; 512]) -> [u8; 512]
+    ensures { λ r. ⌜ r ≡ bytesOf marks ⌝ }
+{
+    let mut bytes = [0u8; 512];
+    set_bytes(&mut bytes, marks);
     bytes
 }
