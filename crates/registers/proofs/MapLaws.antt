@@ -201,3 +201,12 @@ module _ (first last : Registers) (v : NodeIndex) (b : Bool) (test : b ≡ (regi
           pub entered : countsPass first′ last′ ≡ false → (n : ℕ) → n ≡ v .0 → registersOf (n + 1) first′ last′ ≡ registerRecord first last s v
           unfolding registerRecord
           entered h n e = rw (← test, t, keeps, lt-leb 512 (v .0) free, passes s (v .0) first last first′ last′ become false h, e) (is-stored s (v .0) first last first′ last′ become h (v .0 + 1))
+
+        -- a record without registers, by what it was parsed as
+        pub no-register : v .0 < 512 → RegistersSized first → RegistersSized last → (r : Record) → r ≡ recordOf s → r .classical ≡ None
+            → (n : ℕ) → n ≡ v .0 → registersOf (n + 1) first last ≡ registerRecord first last s v
+        no-register free z y r p q =
+            let f = both-lent z y t in
+            entered free first last
+            (ends-nothing (front s) (classicalOf s) s (v .0) first last (sym (ap (λ (x : Record). x .classical) p) ∙ q) (f .0) (f .1))
+            (counts-fit first last (f .0) (f .1))

@@ -208,6 +208,16 @@ pub fn register_record(first: Registers, last: Registers, part: &[u8], v: NodeIn
     if 512 <= v.0 {
         return maps_kept(v, first, last, Refusal::TooManyNodes);
     }
+    let classical = r.classical;
+    // Most records have no register: they copy no map.
+    if let InvolvedClassical::None = classical {
+        return Registered {
+            accepted: file::to_index(v.0) + 1,
+            answer: Outcome::Done,
+            first,
+            last,
+        };
+    }
     let mut first_name = first.name;
     let mut first_index = first.index;
     let mut first_node = first.node;
@@ -217,7 +227,6 @@ pub fn register_record(first: Registers, last: Registers, part: &[u8], v: NodeIn
     let mut last_node = last.node;
     let mut last_hints = [0u16; 2048];
     let front = r.front;
-    let classical = r.classical;
     let m = enter_record(
         front,
         part,
