@@ -55,7 +55,8 @@ pub extern "C" fn sawhekonu_blocking_predecessors(
 
 #[no_mangle]
 pub extern "C" fn sawhekonu_successors(dag: HostDag, node: usize, buffer: &mut [u16]) -> HostAnswer
-    ensures { λ r. ⌜ record { answer = r; buffer = now (buffer .exit) } ≡ onDag dag (now (buffer .entry)) (λ (g : CircuitDag). lent (successors g node (now (buffer .entry)))) ⌝ }
+    ensures { λ r. ⌜ record { answer = r; buffer = now (buffer .exit) }
+        ≡ onDag dag (now (buffer .entry)) (λ (g : CircuitDag). lent (successors g node (now (buffer .entry)))) ⌝ }
 {
     if !is_dag(dag) {
         return refuse(Refusal::Unsound);
@@ -76,7 +77,8 @@ pub extern "C" fn sawhekonu_new_front_layer(
     buffer: &mut [u16],
 ) -> HostAnswer
     ensures { λ r. ⌜ record { answer = r; buffer = now (buffer .exit) }
-        ≡ onDag dag (now (buffer .entry)) (λ (g : CircuitDag). lent (newFrontLayer g (now (executed .entry)) (now (layer .entry)) node (now (buffer .entry)))) ⌝ }
+        ≡ onDag dag (now (buffer .entry)) (λ (g : CircuitDag).
+        lent (newFrontLayer g (now (executed .entry)) (now (layer .entry)) node (now (buffer .entry)))) ⌝ }
 {
     if !is_dag(dag) {
         return refuse(Refusal::Unsound);
