@@ -1,6 +1,7 @@
 -- `host::querying::sawhekonu_new_front_layer` meets its contract. Assumes nothing.
-use mathlib.Core.Path.{refl, sym, _∙_}
+use mathlib.Core.Path.{refl, sym, _∙_, ap}
 use borrow.Author.Tests.{not-true, not-false}
+use Rattle.host.specs.Answers.{lent}
 use Rattle.host.proofs.NodeLaws.{layer-beyond}
 use borrow.Author.Needs.{needs}
 use Rattle.host.proofs.querying.sawhekonu_new_front_layer.Statement.{statement}
@@ -40,7 +41,11 @@ same-length : tie.Need-same-length
 same-length c = search needs
 
 returns-3 : tie.Need-returns-3
-returns-3 c = let i = c .before .before .before in let e = i .before .before .before .before in let m = sym (e .before .is-dag .ensures) ∙ not-false _ (e .if1 .left) in rw (c .of-query .ensures, m, ← i .before .before .dag-of2 .ensures, ← i .new-front-layer .ensures) refl
+returns-3 c =
+    let i = c .before .before .before in
+    let e = i .before .before .before .before in
+    let m = sym (e .before .is-dag .ensures) ∙ not-false _ (e .if1 .left) in
+    rw (c .of-query .ensures, m, ← i .before .before .dag-of2 .ensures) (ap lent (i .new-front-layer .ensures))
 
 pub sawhekonu-new-front-layer-spec : {M : Type 1} → statement M
 sawhekonu-new-front-layer-spec =
