@@ -111,12 +111,12 @@ abbrev pub noOperation : CircuitDag → HostAnswer
 noOperation g = ofOperation (names g NoOperation)
 
 -- first[q] or last[q]
-abbrev pub atQubit : Bool → ℕ → CircuitDag → HostAnswer
-atQubit first q g = cond (ltb q 64) (ofOperation (cond first (firstInvolvingQubit g q) (lastInvolvingQubit g q))) (noOperation g)
+abbrev pub involvingQubit : Bool → ℕ → CircuitDag → HostAnswer
+involvingQubit first q g = cond (ltb q 64) (ofOperation (cond first (firstInvolvingQubit g q) (lastInvolvingQubit g q))) (noOperation g)
 
 -- first(name, index) or last(name, index)
-abbrev pub atKey : Bool → ℕ → ℕ → CircuitDag → HostAnswer
-atKey first name index g = let key : RegisterKey = record { name = name; index = index } in
+abbrev pub involvingKey : Bool → ℕ → ℕ → CircuitDag → HostAnswer
+involvingKey first name index g = let key : RegisterKey = record { name = name; index = index } in
     cond (ltb name 256 && ltb index 65536) (ofOperation (cond first (firstInvolvingClassical g key) (lastInvolvingClassical g key))) (noOperation g)
 
 -- the answer beside the graph

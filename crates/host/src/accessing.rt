@@ -3,7 +3,7 @@ ghost use mathlib.Core.Path.{_≡_};
 ghost use mathlib.Core.Bool.{true, false};
 ghost use Rattle.graph.specs.declared.CircuitDag.{CircuitDag};
 ghost use Rattle.accessors.specs.Accessors.{commutingOperations, firstParallelBlock, lastParallelBlock, get};
-ghost use Rattle.host.specs.Answers.{lent, onDag, asked, gotOf, atQubit, atKey};
+ghost use Rattle.host.specs.Answers.{lent, onDag, asked, gotOf, involvingQubit, involvingKey};
 use crate::HostAnswer;
 use crate::HostDag;
 use crate::HostNode;
@@ -90,7 +90,7 @@ pub extern "C" fn sawhekonu_first_operation_involving_qubit(
     dag: HostDag,
     qubit: usize,
 ) -> HostAnswer
-    ensures { λ r. ⌜ r ≡ asked dag (atQubit true qubit) ⌝ }
+    ensures { λ r. ⌜ r ≡ asked dag (involvingQubit true qubit) ⌝ }
 {
     if !is_dag(dag) {
         return refuse(Refusal::Unsound);
@@ -106,7 +106,7 @@ pub extern "C" fn sawhekonu_first_operation_involving_qubit(
 // The last operation that involves a qubit; a qubit over 63 has none.
 #[no_mangle]
 pub extern "C" fn sawhekonu_last_operation_involving_qubit(dag: HostDag, qubit: usize) -> HostAnswer
-    ensures { λ r. ⌜ r ≡ asked dag (atQubit false qubit) ⌝ }
+    ensures { λ r. ⌜ r ≡ asked dag (involvingQubit false qubit) ⌝ }
 {
     if !is_dag(dag) {
         return refuse(Refusal::Unsound);
@@ -126,7 +126,7 @@ pub extern "C" fn sawhekonu_first_operation_involving_classical(
     name: usize,
     index: usize,
 ) -> HostAnswer
-    ensures { λ r. ⌜ r ≡ asked dag (atKey true name index) ⌝ }
+    ensures { λ r. ⌜ r ≡ asked dag (involvingKey true name index) ⌝ }
 {
     if !is_dag(dag) {
         return refuse(Refusal::Unsound);
@@ -153,7 +153,7 @@ pub extern "C" fn sawhekonu_last_operation_involving_classical(
     name: usize,
     index: usize,
 ) -> HostAnswer
-    ensures { λ r. ⌜ r ≡ asked dag (atKey false name index) ⌝ }
+    ensures { λ r. ⌜ r ≡ asked dag (involvingKey false name index) ⌝ }
 {
     if !is_dag(dag) {
         return refuse(Refusal::Unsound);
