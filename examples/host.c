@@ -41,14 +41,14 @@ FIELD(sawhekonu_commuting, count, 0, 8);
 FIELD(sawhekonu_commuting, list, 8, 1024);
 SIZE(sawhekonu_commuting, 1032);
 FIELD(sawhekonu_dag, nodes, 0, 3080);
-FIELD(sawhekonu_dag, edges, 3080, 8200);
-FIELD(sawhekonu_dag, first, 11280, 642);
-FIELD(sawhekonu_dag, last, 11922, 642);
-FIELD(sawhekonu_dag, first_registers, 12568, 1288);
-FIELD(sawhekonu_dag, last_registers, 13856, 1288);
-FIELD(sawhekonu_dag, commuting, 15144, 1032);
-FIELD(sawhekonu_dag, backs, 16176, 8);
-FIELD(sawhekonu_dag, fronts, 16184, 8);
+FIELD(sawhekonu_dag, backs, 3080, 8);
+FIELD(sawhekonu_dag, edges, 3088, 8200);
+FIELD(sawhekonu_dag, fronts, 11288, 8);
+FIELD(sawhekonu_dag, first, 11296, 642);
+FIELD(sawhekonu_dag, last, 11938, 642);
+FIELD(sawhekonu_dag, first_registers, 12584, 1288);
+FIELD(sawhekonu_dag, last_registers, 13872, 1288);
+FIELD(sawhekonu_dag, commuting, 15160, 1032);
 SIZE(sawhekonu_dag, 16192);
 FIELD(sawhekonu_walk, current, 0, 512);
 FIELD(sawhekonu_walk, executed, 512, 512);
@@ -129,7 +129,7 @@ static bool same(const void *x, const void *y, size_t length) {
 
 /* every field; the 4 bytes between last and first_registers are no field */
 static bool same_dag(const sawhekonu_dag *x, const sawhekonu_dag *y) {
-    return same(x, y, 12564) && same(&x->first_registers, &y->first_registers, sizeof *x - 12568);
+    return same(x, y, 12580) && same(&x->first_registers, &y->first_registers, sizeof *x - 12584);
 }
 
 static bool holds_set(const uint8_t *set, size_t n, const uint16_t *nodes) {

@@ -87,14 +87,14 @@ typedef struct sawhekonu_commuting {
  * is refused. */
 typedef struct sawhekonu_dag {
     sawhekonu_nodes nodes;
+    size_t backs; /* back insertions */
     sawhekonu_edges edges;
+    size_t fronts; /* front insertions */
     sawhekonu_end first;
     sawhekonu_end last;
     sawhekonu_registers first_registers;
     sawhekonu_registers last_registers;
     sawhekonu_commuting commuting;
-    size_t backs;  /* back insertions */
-    size_t fronts; /* front insertions */
 } sawhekonu_dag;
 
 /* The state of a walk, two sets of nodes: 1 at a set's nodes, 0 elsewhere. A walk starts with all bytes 0. */

@@ -19,7 +19,7 @@ pub fn check() {
         End { node all block }
         Registers { count name index node }
         Commuting { count list }
-        CircuitDag { nodes edges first last first_registers last_registers commuting backs fronts }
+        CircuitDag { nodes backs edges fronts first last first_registers last_registers commuting }
         Walk { current executed }
         Answer { refusal value }
         GraphAnswer { answer graph }

@@ -49,14 +49,14 @@ pub struct Commuting {
 #[derive(Clone, Copy)]
 pub struct CircuitDag {
     pub nodes: Nodes,
+    pub backs: usize,
     pub edges: Edges,
+    pub fronts: usize,
     pub first: End,
     pub last: End,
     pub first_registers: Registers,
     pub last_registers: Registers,
     pub commuting: Commuting,
-    pub backs: usize,
-    pub fronts: usize,
 }
 
 #[repr(C)]

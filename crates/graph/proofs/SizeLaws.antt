@@ -70,10 +70,10 @@ commuting-sized x vs h = record { list = search length-mapped }
 pub dag-sized : (g : CircuitDag) (vs : List Val) → Is dag-row g vs → DagSized g
 dag-sized g vs h = record {
   nodes = search (nodes-sized, h);
-  edges = search (edges-sized, h .1);
-  first = search (end-sized, h .1 .1);
-  last = search (end-sized, h .1 .1 .1);
-  first-registers = search (registers-sized, h .1 .1 .1 .1);
-  last-registers = search (registers-sized, h .1 .1 .1 .1 .1);
-  commuting = search (commuting-sized, h .1 .1 .1 .1 .1 .1);
+  edges = search (edges-sized, h .1 .1);
+  first = search (end-sized, h .1 .1 .1 .1);
+  last = search (end-sized, h .1 .1 .1 .1 .1);
+  first-registers = search (registers-sized, h .1 .1 .1 .1 .1 .1);
+  last-registers = search (registers-sized, h .1 .1 .1 .1 .1 .1 .1);
+  commuting = search (commuting-sized, h .1 .1 .1 .1 .1 .1 .1 .1);
 }

@@ -61,17 +61,19 @@ pub struct Commuting {
     pub list: [u16; 512],
 }
 
+// The graph. The two counts stand between the large parts: where those lie side by side, the compiler gathers them in a copy of their own each
+// time that a graph is made of parts.
 #[repr(C)]
 pub struct CircuitDag {
     pub nodes: Nodes,
+    pub backs: usize,
     pub edges: Edges,
+    pub fronts: usize,
     pub first: End,
     pub last: End,
     pub first_registers: Registers,
     pub last_registers: Registers,
     pub commuting: Commuting,
-    pub backs: usize,
-    pub fronts: usize,
 }
 
 // An end that names no node.

@@ -20,11 +20,11 @@ pub extern "C" fn sawhekonu_from_circuit(file: &[u8]) -> HostGraph
     ensures { λ r. ⌜ r ≡ graphLoaded (fromCircuit (now (file .entry))) ⌝ }
 {
     let x = insertion::from_circuit(file);
+    let graph = host_dag(x.graph);
     let answer = x.answer;
-    let graph = x.graph;
     HostGraph {
         answer: of_loaded(answer),
-        graph: host_dag(graph),
+        graph,
     }
 }
 

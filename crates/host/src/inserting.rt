@@ -28,11 +28,11 @@ pub extern "C" fn sawhekonu_load(file: &[u8]) -> HostGraph
     ensures { λ r. ⌜ r ≡ graphLoaded (load (now (file .entry))) ⌝ }
 {
     let x = insertion::load(file);
+    let graph = host_dag(x.graph);
     let answer = x.answer;
-    let graph = x.graph;
     HostGraph {
         answer: of_loaded(answer),
-        graph: host_dag(graph),
+        graph,
     }
 }
 
@@ -47,11 +47,11 @@ pub extern "C" fn sawhekonu_insert(dag: HostDag, part: &[u8]) -> HostGraph
         };
     }
     let x = insertion::insert(dag_of(dag), part);
+    let graph = host_dag(x.graph);
     let answer = x.answer;
-    let graph = x.graph;
     HostGraph {
         answer: of_inserted(answer),
-        graph: host_dag(graph),
+        graph,
     }
 }
 

@@ -28,18 +28,18 @@ pub struct HostEnd {
     pub block: [u8; 512],
 }
 
-// The graph.
+// The graph, its fields in the order of CircuitDag.
 #[repr(C)]
 pub struct HostDag {
     pub nodes: Nodes,
+    pub backs: usize,
     pub edges: Edges,
+    pub fronts: usize,
     pub first: HostEnd,
     pub last: HostEnd,
     pub first_registers: Registers,
     pub last_registers: Registers,
     pub commuting: Commuting,
-    pub backs: usize,
-    pub fronts: usize,
 }
 
 // The walk's two sets; a byte is a mark, 0 or 1.

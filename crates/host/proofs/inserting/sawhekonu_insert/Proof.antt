@@ -20,14 +20,18 @@ dag-of-requires c κs = search needs
 insert-requires : tie.Need-insert-requires
 insert-requires c κs = search needs
 
-of-inserted-requires : tie.Need-of-inserted-requires
-of-inserted-requires c κs = search needs
-
 host-dag-requires : tie.Need-host-dag-requires
 host-dag-requires c κs = search needs
 
+of-inserted-requires : tie.Need-of-inserted-requires
+of-inserted-requires c κs = search needs
+
 returns-2 : tie.Need-returns-2
-returns-2 c = let i = c .before .before .before in let e = i .before .before in let m = sym (e .before .is-dag .ensures) ∙ not-false _ (e .if1 .left) in rw (c .host-dag .ensures, c .before .of-inserted .ensures, m, ← i .before .dag-of .ensures, ← i .insert .ensures) refl
+returns-2 c =
+    let i = c .before .before in
+    let e = i .before .before in
+    let m = sym (e .before .is-dag .ensures) ∙ not-false _ (e .if1 .left) in
+    rw (c .of-inserted .ensures, c .before .host-dag .ensures, m, ← i .before .dag-of .ensures, ← i .insert .ensures) refl
 
 pub sawhekonu-insert-spec : {M : Type 1} → statement M
 sawhekonu-insert-spec =
@@ -38,6 +42,6 @@ sawhekonu-insert-spec =
     returns
     dag-of-requires
     insert-requires
-    of-inserted-requires
     host-dag-requires
+    of-inserted-requires
     returns-2)

@@ -7,15 +7,15 @@ use Rattle.host.proofs.inserting.sawhekonu_load.Tie as tie
 load-requires : tie.Need-load-requires
 load-requires c κs = search needs
 
-of-loaded-requires : tie.Need-of-loaded-requires
-of-loaded-requires c κs = search needs
-
 host-dag-requires : tie.Need-host-dag-requires
 host-dag-requires c κs = search needs
 
+of-loaded-requires : tie.Need-of-loaded-requires
+of-loaded-requires c κs = search needs
+
 returns : tie.Need-returns
-returns c = rw (c .host-dag .ensures, c .before .of-loaded .ensures, ← c .before .before .before .load .ensures) refl
+returns c = rw (c .of-loaded .ensures, c .before .host-dag .ensures, ← c .before .before .load .ensures) refl
 
 pub sawhekonu-load-spec : {M : Type 1} → statement M
 sawhekonu-load-spec =
-    tie.close (tie.spec load-requires of-loaded-requires host-dag-requires returns)
+    tie.close (tie.spec load-requires host-dag-requires of-loaded-requires returns)
