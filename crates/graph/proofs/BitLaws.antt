@@ -110,7 +110,7 @@ bits-more f i words low clear m = record {
   ];
 }
 
-pub no-words : (n c : ℕ) → _≡_ {A = ℕ} (getD (replicate n 0) c 0) 0
+no-words : (n c : ℕ) → _≡_ {A = ℕ} (getD (replicate n 0) c 0) 0
 no-words zero c = refl
 no-words (suc n) zero = refl
 no-words (suc n) (suc c) = no-words n c

@@ -20,7 +20,7 @@ use Rattle.graph.specs.declared.Registers.{Registers}
 use Rattle.graph.specs.Dag.{Edge, Entry, edgeAt, entryAt, entry, sameEdge, sameKey}
 use Rattle.graph.specs.Soundness.{ifPresent, samePlace, ascends, keysDistinct}
 use Rattle.file.proofs.BoolLaws.{bool-cases, clash-bool, not-true, not-false, bool-ext, and-l, and-r, and-intro, and-cases, or-cases, or-l, or-r, flip-not, split-lt}
-use Rattle.graph.proofs.BitLaws.{markAt, MarkedBits, bits-more, no-words, no-bits}
+use Rattle.graph.proofs.BitLaws.{markAt, MarkedBits, bits-more, no-bits}
 use Rattle.graph.proofs.ListLaws.{at-any, at-none, at-all, all-at, all-here, all-fails, upTo-all, all-upTo, upTo-distinct, distinct-upTo, upTo-any, any-upTo, upTo-none, members-all, all-members}
 use Rattle.graph.proofs.PlaceLaws.{place-read}
 use Rattle.graph.proofs.SoundnessLaws.{same-told, told-same, ascends-taken, all-taken, taken-ascends, taken-all}
@@ -323,7 +323,7 @@ module _ {es : Edges} {n : ℕ} {place : List ℤ} {op into : List Bool} {seen :
         marks = rw z (bits-more (cellAt es) i seen (omega (arith, z, a, b, I .passed .fit, I .long)) (sym (ap (markAt seen) z) ∙ s) (I .marks));
       }
 
--- ---- edges in the order of their newer nodes: each cell keeps its last newer node, plus 1
+-- ---- edges that rise in their newer node, cell by cell: each cell keeps its last newer node, plus 1
 
 abbrev pub newerEnd : ℕ → ℕ → ℕ
 newerEnd f t = cond (ltb t f) f t
@@ -331,11 +331,10 @@ newerEnd f t = cond (ltb t f) f t
 abbrev pub olderCell : ℕ → ℕ → ℕ
 olderCell f t = cond (ltb t f) (2 * t + 1) (2 * f)
 
-pub record EdgesOrdered (es : Edges) (n : ℕ) (place : List ℤ) (op into : List Bool) (stamps : List ℕ) (last i : ℕ) : Type 0 where
+pub record EdgesStamped (es : Edges) (n : ℕ) (place : List ℤ) (op into : List Bool) (stamps : List ℕ) (i : ℕ) : Type 0 where
   pub passed : EdgesApart es n place op into i
   pub long : length stamps ≡ 1024
   pub stamped : (j : ℕ) → j < i → newerEnd (fromAt es j) (toAt es j) < getD stamps (olderCell (fromAt es j) (toAt es j)) 0
-  pub latest : (c : ℕ) → getD stamps c 0 ≤ last + 1
 
 pub newer-low : (f t : ℕ) → f < 512 → t < 512 → newerEnd f t < 512
 newer-low f t a b = ⊎-elim
@@ -349,21 +348,20 @@ older-low f t a b = ⊎-elim
     (λ (e : ltb t f ≡ false). rw e (omega arith))
     (bool-cases (ltb t f))
 
-pub order-begin : (es : Edges) (n : ℕ) (place : List ℤ) (op into : List Bool) → es .count ≤ 2048 → n ≤ 512 → into ≡ replicate 512 false
-    → EdgesOrdered es n place op into (replicate 1024 0) 0 0
-order-begin es n place op into r f e = record {
+pub stamps-begin : (es : Edges) (n : ℕ) (place : List ℤ) (op into : List Bool) → es .count ≤ 2048 → n ≤ 512 → into ≡ replicate 512 false
+    → EdgesStamped es n place op into (replicate 1024 0) 0
+stamps-begin es n place op into r f e = record {
   passed = edges-none es n place op into r f e;
   long = length-replicate {A = ℕ} 1024 0;
   stamped = λ j k. absurd (omega arith);
-  latest = λ c. omega (arith, no-words 1024 c);
 }
 
--- w is the newer node of the edge in turn, and its cell c has no stamp of w
-pub order-more : {es : Edges} {n : ℕ} {place : List ℤ} {op into : List Bool} {stamps : List ℕ} {last i : ℕ}
-    → EdgesOrdered es n place op into stamps last i → (f t w c : ℕ) → i < es .count → f ≡ fromAt es i → t ≡ toAt es i → edgeTest n place op f t ≡ true
-    → w ≡ newerEnd f t → c ≡ olderCell f t → last ≤ w → (getD stamps c 0 ≡ w + 1 → ⊥)
-    → EdgesOrdered es n place op (set into t true) (set stamps c (w + 1)) w (i + 1)
-order-more {es} {n} {place} {op} {into} {stamps} {last} {i} I f t w c k p q e hw hc ord new =
+-- w is the newer node of the edge in turn, and its cell c has a smaller stamp
+pub stamps-more : {es : Edges} {n : ℕ} {place : List ℤ} {op into : List Bool} {stamps : List ℕ} {i : ℕ}
+    → EdgesStamped es n place op into stamps i → (f t w c : ℕ) → i < es .count → f ≡ fromAt es i → t ≡ toAt es i → edgeTest n place op f t ≡ true
+    → w ≡ newerEnd f t → c ≡ olderCell f t → getD stamps c 0 < w + 1
+    → EdgesStamped es n place op (set into t true) (set stamps c (w + 1)) (i + 1)
+stamps-more {es} {n} {place} {op} {into} {stamps} {i} I f t w c k p q e hw hc new =
     let C : ℕ → ℕ = λ j. olderCell (fromAt es j) (toAt es j) in
     let W : ℕ → ℕ = λ j. newerEnd (fromAt es j) (toAt es j) in
     let a = from-low n place op f t e in
@@ -375,7 +373,7 @@ order-more {es} {n} {place} {op} {into} {stamps} {last} {i} I f t w c k p q e hw
           let x : C j ≡ c = (λ s. olderCell (u s) (v s)) ∙ sym hc in
           let y : W j ≡ w = (λ s. newerEnd (u s) (v s)) ∙ sym hw in
           let z : W j < getD stamps c 0 = rw x at (I .stamped j m) in
-          new (omega (arith, y, z, I .latest c)));
+          omega (arith, y, z, new));
       long = length-set stamps c (w + 1) ∙ I .long;
       stamped = λ j m. ⊎-elim
           (λ (x : j ≡ i).
@@ -386,16 +384,11 @@ order-more {es} {n} {place} {op} {into} {stamps} {last} {i} I f t w c k p q e hw
           (λ (x : j < i). elim (ℕ-discrete (C j) c) [
             | yes u ↦
                 let g : getD (set stamps c (w + 1)) (C j) 0 ≡ w + 1 = ap (λ (y : ℕ). getD (set stamps c (w + 1)) y 0) u ∙ same in
-                omega (arith, g, I .stamped j x, I .latest (C j))
+                let z : W j < getD stamps c 0 = rw u at (I .stamped j x) in
+                omega (arith, g, z, new)
             | no u ↦ omega (arith, getD-set-other stamps c (C j) (w + 1) 0 u, I .stamped j x)
           ])
           (split-lt j i m);
-      latest = λ d. elim (ℕ-discrete d c) [
-        | yes u ↦
-            let g : getD (set stamps c (w + 1)) d 0 ≡ w + 1 = ap (λ (y : ℕ). getD (set stamps c (w + 1)) y 0) u ∙ same in
-            omega (arith, g)
-        | no u ↦ omega (arith, getD-set-other stamps c d (w + 1) 0 u, I .latest d)
-      ];
     }
 
 -- ---- the names of an end

@@ -238,10 +238,10 @@ fn older_cell(from: NodeIndex, to: NodeIndex) -> usize
     2 * (from.0 as usize)
 }
 
-// Every edge fits and no two are the same, for edges in the order in which insertion makes them, that of their newer
-// ends: a cell's stamp is the newer end of its last edge, plus 1. into gets the targets. With 2 KB of stamps it is quicker
-// than edges_fit, which decides where this says no.
-fn edges_fit_in_order(
+// Every edge fits and no two are the same, for edges of which those with one older end and direction come in the order of
+// their newer ends, as insertion leaves them: a cell's stamp is the newer end of its last edge, plus 1. into gets the
+// targets. With 2 KB of stamps it is quicker than edges_fit, which decides where this says no.
+fn edges_fit_by_stamps(
     es: Edges,
     n: usize,
     place: &[i16; 512],
@@ -258,7 +258,6 @@ fn edges_fit_in_order(
         ≡ anyOf (λ (e : Edge). eqb (e .to) v) (map (edgeAt es) (upTo (es .count)))) ⌝ }
 {
     let mut stamps = [0u16; 1024];
-    let mut last: u16 = 0;
     let m = es.count;
     let mut i: usize = 0;
     while i < m {
@@ -268,16 +267,12 @@ fn edges_fit_in_order(
             return false;
         }
         let newer = newer_end(from, to);
-        if newer < last {
-            return false;
-        }
         let cell = older_cell(from, to);
         let stamp = newer + 1;
-        if stamps[cell] == stamp {
+        if stamp <= stamps[cell] {
             return false;
         }
         stamps[cell] = stamp;
-        last = newer;
         into[to.0 as usize] = true;
         i += 1;
     }
@@ -285,7 +280,7 @@ fn edges_fit_in_order(
 }
 
 // Every edge fits and no two are the same; into gets the targets. The edges of a built graph pass at the first look.
-fn edges_pass(
+fn all_edges_fit(
     es: Edges,
     n: usize,
     place: &[i16; 512],
@@ -301,7 +296,7 @@ fn edges_pass(
         × (r ≡ true → (v : ℕ) → getD (now (into .exit)) v false
         ≡ anyOf (λ (e : Edge). eqb (e .to) v) (map (edgeAt es) (upTo (es .count)))) ⌝ }
 {
-    if edges_fit_in_order(es, n, place, op, into) {
+    if edges_fit_by_stamps(es, n, place, op, into) {
         return true;
     }
     *into = [false; 512];
@@ -551,7 +546,7 @@ pub fn is_sound(g: CircuitDag) -> bool
     let form = g.nodes.form;
     let op = operations(&kind, &form);
     let mut into = no_marks();
-    if !edges_pass(edges, n, &place, &op, &mut into) {
+    if !all_edges_fit(edges, n, &place, &op, &mut into) {
         return false;
     }
     let first_end = g.first;

@@ -30,10 +30,10 @@ known : (c : tie.After-operations) (v : ℕ) → getD (c .operations .result) v 
 known c = c .operations .ensures
 
 edged : (c : tie.Else3) → edgesOk (c .before .before .before .before .before .before .before .before .before .before .before .before .before .before .before .before .before .before .before .before .before .args .g) (c .before .before .before .before .before .before .operations .result) ≡ true
-edged c = sym (c .before .edges-pass .ensures .0) ∙ not-false _ (c .if3 .left)
+edged c = sym (c .before .all-edges-fit .ensures .0) ∙ not-false _ (c .if3 .left)
 
-targets : (c : tie.Else3) (v : ℕ) → getD (c .before .edges-pass .last .1 .1 .1 .1 .0) v false ≡ targetsOf (c .before .before .before .before .before .before .before .before .before .before .before .before .before .before .before .before .before .before .before .before .before .args .g .edges) v
-targets c = c .before .edges-pass .ensures .1 (not-false _ (c .if3 .left))
+targets : (c : tie.Else3) (v : ℕ) → getD (c .before .all-edges-fit .last .1 .1 .1 .1 .0) v false ≡ targetsOf (c .before .before .before .before .before .before .before .before .before .before .before .before .before .before .before .before .before .before .before .before .before .args .g .edges) v
+targets c = c .before .all-edges-fit .ensures .1 (not-false _ (c .if3 .left))
 
 -- what a refusal says
 refusal : (c : tie.Start) (b : Bool) → (Sound (c .args .g) → b ≡ true) → b ≡ false → false ≡ sound (c .args .g)
@@ -57,23 +57,23 @@ operations-requires c κs = sized (c .before .before .before .before .before .be
 no-marks-requires : tie.Need-no-marks-requires
 no-marks-requires c κs = search needs
 
-edges-pass-requires : tie.Need-edges-pass-requires
-edges-pass-requires c κs = let k = fits (c .before .before .before .before .before .before .before .before .before .before .before .before .before) in (k .edges-fit, k .nodes-fit, c .before .before .before .no-marks .ensures)
+all-edges-fit-requires : tie.Need-all-edges-fit-requires
+all-edges-fit-requires c κs = let k = fits (c .before .before .before .before .before .before .before .before .before .before .before .before .before) in (k .edges-fit, k .nodes-fit, c .before .before .before .no-marks .ensures)
 
 returns-3 : tie.Need-returns-3
-returns-3 c = let d = c .before .before .before .before .before .before .before .before .before .before .before .before .before .before .before .before .before .before .before .before .before in let o = c .before .before .before .before .before .before in refusal d (edgesOk (d .args .g) (o .operations .result)) (edges-of (d .args .g) (o .operations .result) (known o)) (sym (c .before .edges-pass .ensures .0) ∙ not-true _ (c .if3 .taken))
+returns-3 c = let d = c .before .before .before .before .before .before .before .before .before .before .before .before .before .before .before .before .before .before .before .before .before in let o = c .before .before .before .before .before .before in refusal d (edgesOk (d .args .g) (o .operations .result)) (edges-of (d .args .g) (o .operations .result) (known o)) (sym (c .before .all-edges-fit .ensures .0) ∙ not-true _ (c .if3 .taken))
 
 ends-fit-requires : tie.Need-ends-fit-requires
 ends-fit-requires c κs = fits (c .before .before .before .before .before .before .before .before .before .before .before .before .before .before .before .before .before .before .before) .nodes-fit
 
 returns-4 : tie.Need-returns-4
-returns-4 c = let d = c .before .before .before .before .before .before .before .before .before .before .before .before .before .before .before .before .before .before .before .before .before .before .before .before .before .before .before in let o = c .before .before .before .before .before .before .before .before .before .before .before .before in let e = c .before .before .before .before .before .before in refusal d (endsClause (d .args .g) (o .operations .result) (e .before .edges-pass .last .1 .1 .1 .1 .0)) (ends-of (d .args .g) (o .operations .result) (known o) (e .before .edges-pass .last .1 .1 .1 .1 .0) (targets e)) (sym (c .before .ends-fit .ensures) ∙ not-true _ (c .if4 .taken))
+returns-4 c = let d = c .before .before .before .before .before .before .before .before .before .before .before .before .before .before .before .before .before .before .before .before .before .before .before .before .before .before .before in let o = c .before .before .before .before .before .before .before .before .before .before .before .before in let e = c .before .before .before .before .before .before in refusal d (endsClause (d .args .g) (o .operations .result) (e .before .all-edges-fit .last .1 .1 .1 .1 .0)) (ends-of (d .args .g) (o .operations .result) (known o) (e .before .all-edges-fit .last .1 .1 .1 .1 .0) (targets e)) (sym (c .before .ends-fit .ensures) ∙ not-true _ (c .if4 .taken))
 
 lists-fit-requires : tie.Need-lists-fit-requires
 lists-fit-requires c κs = let k = fits (c .before .before .before .before .before .before .before .before .before .before .before .before .before .before .before .before .before .before .before .before .before) in (k .commuting-fit, k .first-fit, k .last-fit)
 
 returns-5 : tie.Need-returns-5
-returns-5 c = let d = c .before .before .before .before .before .before .before .before .before .before .before .before .before .before .before .before .before .before .before .before .before .before .before .before .before .before .before .before in let o = c .before .before .before .before .before .before .before .before .before .before .before .before .before in let e = c .before .before .before .before .before .before .before in let h = c .before in c .lists-fit .ensures ∙ last-answer (d .args .g) (sized d .commuting .list) (listsClause (d .args .g)) (lists-of (d .args .g)) (λ y. accepted (d .args .g) (o .operations .result) (known o) (e .before .edges-pass .last .1 .1 .1 .1 .0) (targets e) (counted (c .before .before .before .before .before .before .before .before .before .before .before .before .before .before .before .before .before .before .before .before .before .before)) (placed (c .before .before .before .before .before .before .before .before .before .before .before .before .before .before .before .before .before .before)) (edged e) (sym (h .before .ends-fit .ensures) ∙ not-false _ (h .if4 .left)) y (sized d .commuting .list))
+returns-5 c = let d = c .before .before .before .before .before .before .before .before .before .before .before .before .before .before .before .before .before .before .before .before .before .before .before .before .before .before .before .before in let o = c .before .before .before .before .before .before .before .before .before .before .before .before .before in let e = c .before .before .before .before .before .before .before in let h = c .before in c .lists-fit .ensures ∙ last-answer (d .args .g) (sized d .commuting .list) (listsClause (d .args .g)) (lists-of (d .args .g)) (λ y. accepted (d .args .g) (o .operations .result) (known o) (e .before .all-edges-fit .last .1 .1 .1 .1 .0) (targets e) (counted (c .before .before .before .before .before .before .before .before .before .before .before .before .before .before .before .before .before .before .before .before .before .before)) (placed (c .before .before .before .before .before .before .before .before .before .before .before .before .before .before .before .before .before .before)) (edged e) (sym (h .before .ends-fit .ensures) ∙ not-false _ (h .if4 .left)) y (sized d .commuting .list))
 
 pub is-sound-spec : {M : Type 1} → statement M
 is-sound-spec =
@@ -85,7 +85,7 @@ is-sound-spec =
     returns-2
     operations-requires
     no-marks-requires
-    edges-pass-requires
+    all-edges-fit-requires
     returns-3
     ends-fit-requires
     returns-4
