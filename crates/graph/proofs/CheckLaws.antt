@@ -6,14 +6,14 @@ use mathlib.Core.List.{List, _∷_, map}
 use Prim.Native.Nat.{ℕ, zero, suc, _+_, _-_, _*_, _/_, _%_, _^_, _≤_, _<_}
 use native.Mathlib.Omega.{arith}
 use native.Mathlib.Decide.{decLt, ℕ-discrete}
-use lib.Dec.{eqb, ltb}
+use lib.Dec.{eqb, ltb, leb}
 use lib.IntN.{ℤ, pos, negsuc}
 use lib.Signed.{mag, nonNeg, ltZ}
 use lib.ListN.{length, getD, set, take, replicate, length-set, length-replicate, List·getD-eq-default}
 use lib.Seq.{getD-set-same, getD-set-other}
 use mir.Syntax.{w16}
 use mir.Val.{toZ, ofZ}
-use borrow.Author.Tests.{ltb-true, lt-ltb, eqb-true, eq-eqb, not-true as not-flip}
+use borrow.Author.Tests.{ltb-true, leb-true, lt-ltb, eqb-true, eq-eqb, not-true as not-flip}
 use Rattle.file.specs.Lists.{anyOf, allOf, distinct, upTo, members}
 use Rattle.graph.specs.declared.Edges.{Edges}
 use Rattle.graph.specs.declared.Registers.{Registers}
@@ -574,73 +574,156 @@ module _ {name index : List ℕ} {i j : ℕ} (I : KeysPassed name index i j) whe
   pub keys-none : i ≤ j → false ≡ repeatedClause name index i
   keys-none k = sym (upTo-none (keyTest name index i) (keyAt name index) i (λ h m. I .none h (omega arith)))
 
--- ---- register maps
+-- ---- keys told apart by their cells
 
-abbrev pub cellOf : Registers → ℕ → ℕ
-cellOf r j = (getD (r .name) j 0 * 256 + getD (r .index) j 0) % 2048
+abbrev pub cellOf : List ℕ → List ℕ → ℕ → ℕ
+cellOf name index j = (getD name j 0 * 256 + getD index j 0) % 2048
+
+abbrev pub keysClause : List ℕ → List ℕ → ℕ → Bool
+keysClause name index m = distinct sameKey (map (λ (j : ℕ). entry (getD name j 0) (getD index j 0) 0) (upTo m))
+
+pub record KeysApart (name index : List ℕ) (m : ℕ) (cells : List Bool) (i : ℕ) : Type 0 where
+  pub room : m ≤ 256
+  pub low : i ≤ m
+  pub long : length cells ≡ 2048
+  pub marks : Marked (cellOf name index) i cells
+  pub apart : (j k : ℕ) → j < k → k < i → sameKey (keyAt name index j) (keyAt name index k) ≡ false
+
+pub keys-begin : (name index : List ℕ) (m : ℕ) → m ≤ 256 → KeysApart name index m (replicate 2048 false) 0
+keys-begin name index m h = record {
+  room = h;
+  low = omega arith;
+  long = length-replicate 2048 false;
+  marks = none-marked (cellOf name index) 2048;
+  apart = λ j k a b. absurd (omega arith);
+}
+
+module _ {name index : List ℕ} {m : ℕ} {cells : List Bool} {i : ℕ} (I : KeysApart name index m cells i) where
+  pub key-taken : (c : ℕ) → i < m → (getD cells c false && repeatedClause name index i) ≡ true → false ≡ keysClause name index m
+  key-taken c k e = sym (not-true (λ h.
+      let t = any-upTo (keyTest name index i) (keyAt name index) i (and-r (getD cells c false) (repeatedClause name index i) e) in
+      clash-bool (t .2) (distinct-upTo sameKey (keyAt name index) m h (t .0) i (t .1) k)))
+
+  pub key-new : (c : ℕ) → i < m → c ≡ cellOf name index i → (getD cells c false && repeatedClause name index i) ≡ false
+      → KeysApart name index m (set cells c true) (i + 1)
+  key-new c k e s = record {
+    room = I .room;
+    low = omega arith;
+    long = length-set cells c true ∙ I .long;
+    marks = rw e (mark-more (cellOf name index) i cells (omega (arith, I .long)) (I .marks));
+    apart = λ j h a l. ⊎-elim
+        (λ (x : h ≡ i). ap (λ (y : ℕ). sameKey (keyAt name index j) (keyAt name index y)) x ∙ new j (omega arith))
+        (λ (x : h < i). I .apart j h a x)
+        (split-lt h i l);
+  }
+    where
+      new : (j : ℕ) → j < i → sameKey (keyAt name index j) (keyAt name index i) ≡ false
+      new j l = not-true (λ t.
+          let x : getD name j 0 ≡ getD name i 0 = eqb-true _ _ (and-l (eqb (getD name j 0) (getD name i 0)) (eqb (getD index j 0) (getD index i 0)) t) in
+          let y : getD index j 0 ≡ getD index i 0 = eqb-true _ _ (and-r (eqb (getD name j 0) (getD name i 0)) (eqb (getD index j 0) (getD index i 0)) t) in
+          let z : cellOf name index j ≡ c = rw (x, y) (sym e) in
+          let d : getD cells c false ≡ true = sym (ap (λ (y : ℕ). getD cells y false) z) ∙ I .marks .done j l in
+          clash-bool (and-intro (getD cells c false) (repeatedClause name index i) d (upTo-any (keyTest name index i) (keyAt name index) i j l t)) s)
+
+  pub keys-done : m ≤ i → true ≡ keysClause name index m
+  keys-done k = sym (upTo-distinct sameKey (keyAt name index) m (λ j h a l. I .apart j h a (omega arith)))
+
+-- ---- keys whose numbers ascend: those passed are below `next`
+
+abbrev pub keyNumber : List ℕ → List ℕ → ℕ → ℕ
+keyNumber name index j = getD name j 0 * 65536 + getD index j 0
+
+pub record KeysAscend (name index : List ℕ) (m : ℕ) (ascend : Bool) (next i : ℕ) : Type 0 where
+  pub room : m ≤ 256
+  pub low : i ≤ m
+  pub under : ascend ≡ true → (j : ℕ) → j < i → keyNumber name index j < next
+  pub rising : ascend ≡ true → (j k : ℕ) → j < k → k < i → keyNumber name index j < keyNumber name index k
+
+module _ {name index : List ℕ} {m : ℕ} {ascend : Bool} {next i : ℕ} (I : KeysAscend name index m ascend next i) where
+  pub ascend-more : (key after : ℕ) → i < m → key ≡ keyNumber name index i → key < after → KeysAscend name index m (ascend && leb next key) after (i + 1)
+  ascend-more key after k e o = record {
+    room = I .room;
+    low = omega arith;
+    under = λ q j l. ⊎-elim
+        (λ (x : j ≡ i). rw (x, ← e) (omega arith))
+        (λ (x : j < i). omega (arith, I .under (and-l ascend (leb next key) q) j x, leb-true next key (and-r ascend (leb next key) q)))
+        (split-lt j i l);
+    rising = λ q j h a l. ⊎-elim
+        (λ (x : h ≡ i). rw (x, ← e) (omega (arith, I .under (and-l ascend (leb next key) q) j (omega arith), leb-true next key (and-r ascend (leb next key) q))))
+        (λ (x : h < i). I .rising (and-l ascend (leb next key) q) j h a x)
+        (split-lt h i l);
+  }
+
+  -- the same key would have the same number
+  pub ascend-done : m ≤ i → ascend ≡ true → keysClause name index m ≡ true
+  ascend-done k q = upTo-distinct sameKey (keyAt name index) m (λ j h a l. not-true (λ t.
+      let x : getD name j 0 ≡ getD name h 0 = eqb-true _ _ (and-l (eqb (getD name j 0) (getD name h 0)) (eqb (getD index j 0) (getD index h 0)) t) in
+      let y : getD index j 0 ≡ getD index h 0 = eqb-true _ _ (and-r (eqb (getD name j 0) (getD name h 0)) (eqb (getD index j 0) (getD index h 0)) t) in
+      absurd (omega (arith, x, y, I .rising q j h a (omega arith)))))
+
+-- ---- the nodes of a register map
+
+abbrev pub nodesClause : List ℕ → ℕ → ℕ → Bool
+nodesClause node m n = allOf (λ (v : ℕ). ltb v n) (map (λ (i : ℕ). getD node i 0) (upTo m))
+
+pub record NodesPassed (node : List ℕ) (m n : ℕ) (fit : Bool) (i : ℕ) : Type 0 where
+  pub room : m ≤ 256
+  pub low : i ≤ m
+  pub each : fit ≡ true → (j : ℕ) → j < i → ltb (getD node j 0) n ≡ true
+  pub found : fit ≡ false → (j : ℕ) × (j < i) × (ltb (getD node j 0) n ≡ false)
+
+module _ {node : List ℕ} {m n : ℕ} {fit : Bool} {i : ℕ} (I : NodesPassed node m n fit i) where
+  abbrev nodeBelow : ℕ → Bool
+  nodeBelow v = ltb v n
+
+  abbrev nodeOf : ℕ → ℕ
+  nodeOf j = getD node j 0
+
+  pub nodes-more : (b : Bool) → i < m → b ≡ ltb (getD node i 0) n → NodesPassed node m n (fit && b) (i + 1)
+  nodes-more b k e = record {
+    room = I .room;
+    low = omega arith;
+    each = λ q j l. ⊎-elim (λ (x : j ≡ i). rw x (sym e ∙ and-r fit b q)) (λ (x : j < i). I .each (and-l fit b q) j x) (split-lt j i l);
+    found = λ q. ⊎-elim
+        (λ (x : fit ≡ false). let r = I .found x in (r .0, omega (arith, r .1), r .2))
+        (λ (x : b ≡ false). (i, omega arith, sym e ∙ x))
+        (and-cases fit b q);
+  }
+
+  pub nodes-done : m ≤ i → fit ≡ nodesClause node m n
+  nodes-done k = bool-ext fit (nodesClause node m n)
+      (λ q. upTo-all nodeBelow nodeOf m (λ j l. I .each q j (omega arith)))
+      (λ h. not-false (λ q. let r = I .found q in clash-bool (all-upTo nodeBelow nodeOf m h (r .0) (omega (arith, r .1, I .low))) (r .2)))
+
+-- ---- register maps
 
 abbrev pub registersClause : Registers → ℕ → Bool
 registersClause r n = keysDistinct r && allOf (λ (x : Entry). ltb (x .node) n) (map (entryAt r) (upTo (r .count)))
 
-pub record RegistersPassed (r : Registers) (n : ℕ) (cells : List Bool) (i : ℕ) : Type 0 where
-  pub room : r .count ≤ 256
-  pub low : i ≤ r .count
-  pub long : length cells ≡ 2048
-  pub below : (j : ℕ) → j < i → getD (r .node) j 0 < n
-  pub marks : Marked (cellOf r) i cells
-  pub apart : (j k : ℕ) → j < k → k < i → sameKey (entryAt r j) (entryAt r k) ≡ false
-
-pub registers-begin : (r : Registers) (n : ℕ) → r .count ≤ 256 → RegistersPassed r n (replicate 2048 false) 0
-registers-begin r n h = record {
-  room = h;
-  low = omega arith;
-  long = length-replicate 2048 false;
-  below = λ j k. absurd (omega arith);
-  marks = none-marked (cellOf r) 2048;
-  apart = λ j k a b. absurd (omega arith);
-}
-
-module _ {r : Registers} {n : ℕ} {cells : List Bool} {i : ℕ} (I : RegistersPassed r n cells i) where
+module _ (r : Registers) (n : ℕ) where
   abbrev N : Entry → Bool
   N x = ltb (x .node) n
 
   abbrev rows : List Entry
   rows = map (entryAt r) (upTo (r .count))
 
-  pub node-above : (v : ℕ) → i < r .count → v ≡ getD (r .node) i 0 → n ≤ v → false ≡ registersClause r n
-  node-above v k e o = sym (not-true (λ h.
-      let a = all-upTo N (entryAt r) (r .count) (and-r (keysDistinct r) (allOf N rows) h) i k in
-      absurd (omega (arith, ltb-true (getD (r .node) i 0) n a, e))))
+  abbrev K : ℕ → Entry
+  K = keyAt (r .name) (r .index)
 
-  pub key-taken : (c : ℕ) → i < r .count → (getD cells c false && repeatedClause (r .name) (r .index) i) ≡ true → false ≡ registersClause r n
-  key-taken c k e = sym (not-true (λ h.
-      let t = any-upTo (keyTest (r .name) (r .index) i) (keyAt (r .name) (r .index)) i (and-r (getD cells c false) (repeatedClause (r .name) (r .index) i) e) in
-      clash-bool (t .2) (distinct-upTo sameKey (entryAt r) (r .count) (and-l (keysDistinct r) (allOf N rows) h) (t .0) i (t .1) k)))
+  pub registers-none : r .count ≡ 0 → true ≡ registersClause r n
+  registers-none e = sym (and-intro (keysDistinct r) (allOf N rows)
+      (upTo-distinct sameKey (entryAt r) (r .count) (λ j h a l. absurd (omega arith)))
+      (upTo-all N (entryAt r) (r .count) (λ j l. absurd (omega arith))))
 
-  pub key-new : (c v : ℕ) → i < r .count → c ≡ cellOf r i → v ≡ getD (r .node) i 0 → v < n
-      → (getD cells c false && repeatedClause (r .name) (r .index) i) ≡ false → RegistersPassed r n (set cells c true) (i + 1)
-  key-new c v k e w b s = record {
-    room = I .room;
-    low = omega arith;
-    long = length-set cells c true ∙ I .long;
-    below = λ j m. ⊎-elim (λ (x : j ≡ i). rw (x, ← w) b) (λ (x : j < i). I .below j x) (split-lt j i m);
-    marks = rw e (mark-more (cellOf r) i cells (omega (arith, I .long)) (I .marks));
-    apart = λ j h a m. ⊎-elim
-        (λ (x : h ≡ i). ap (λ (y : ℕ). sameKey (entryAt r j) (entryAt r y)) x ∙ new j (omega arith))
-        (λ (x : h < i). I .apart j h a x)
-        (split-lt h i m);
-  }
-    where
-      new : (j : ℕ) → j < i → sameKey (entryAt r j) (entryAt r i) ≡ false
-      new j m = not-true (λ t.
-          let x : getD (r .name) j 0 ≡ getD (r .name) i 0 = eqb-true _ _ (and-l (eqb (getD (r .name) j 0) (getD (r .name) i 0)) (eqb (getD (r .index) j 0) (getD (r .index) i 0)) t) in
-          let y : getD (r .index) j 0 ≡ getD (r .index) i 0 = eqb-true _ _ (and-r (eqb (getD (r .name) j 0) (getD (r .name) i 0)) (eqb (getD (r .index) j 0) (getD (r .index) i 0)) t) in
-          let z : cellOf r j ≡ c = rw (x, y) (sym e) in
-          let d : getD cells c false ≡ true = sym (ap (λ (y : ℕ). getD cells y false) z) ∙ I .marks .done j m in
-          clash-bool (and-intro (getD cells c false) (repeatedClause (r .name) (r .index) i) d
-          (upTo-any (keyTest (r .name) (r .index) i) (keyAt (r .name) (r .index)) i j m t)) s)
+  pub node-above : (b : Bool) → b ≡ nodesClause (r .node) (r .count) n → b ≡ false → false ≡ registersClause r n
+  node-above b e f = sym (not-true (λ h.
+      clash-bool (e ∙ upTo-all (λ (v : ℕ). ltb v n) (λ (i : ℕ). getD (r .node) i 0) (r .count)
+      (all-upTo N (entryAt r) (r .count) (and-r (keysDistinct r) (allOf N rows) h))) f))
 
-  pub registers-done : r .count ≤ i → true ≡ registersClause r n
-  registers-done k = sym (and-intro (keysDistinct r) (allOf N rows)
-      (upTo-distinct sameKey (entryAt r) (r .count) (λ j h a m. I .apart j h a (omega arith)))
-      (upTo-all N (entryAt r) (r .count) (λ j m. lt-ltb _ _ (I .below j (omega arith)))))
+  -- where the nodes are below n, the keys decide
+  pub keys-decide : (b k : Bool) → b ≡ nodesClause (r .node) (r .count) n → b ≡ true → k ≡ keysClause (r .name) (r .index) (r .count) → k ≡ registersClause r n
+  keys-decide b k e f g = bool-ext k (registersClause r n)
+      (λ h. and-intro (keysDistinct r) (allOf N rows)
+      (upTo-distinct sameKey (entryAt r) (r .count) (distinct-upTo sameKey K (r .count) (sym g ∙ h)))
+      (upTo-all N (entryAt r) (r .count) (all-upTo (λ (v : ℕ). ltb v n) (λ (i : ℕ). getD (r .node) i 0) (r .count) (sym e ∙ f))))
+      (λ h. g ∙ upTo-distinct sameKey K (r .count) (distinct-upTo sameKey (entryAt r) (r .count) (and-l (keysDistinct r) (allOf N rows) h)))

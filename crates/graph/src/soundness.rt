@@ -442,6 +442,65 @@ fn is_taken(marked: bool, name: &[u8; 256], index: &[u16; 256], i: usize) -> boo
     false
 }
 
+// The keys are distinct, whatever their order, by a table of cells.
+fn keys_differ(name: &[u8; 256], index: &[u16; 256], m: usize) -> bool
+    requires { ⌜ m ≤ 256 ⌝ }
+    ensures { λ r. ⌜ r ≡ distinct sameKey
+        (map (λ (j : ℕ). entry (getD (now (name .entry)) j 0) (getD (now (index .entry)) j 0) 0) (upTo m)) ⌝ }
+{
+    let mut cells = [false; 2048];
+    let mut i: usize = 0;
+    while i < m {
+        let k = cell_of(name[i], index[i]);
+        if is_taken(cells[k], name, index, i) {
+            return false;
+        }
+        cells[k] = true;
+        i += 1;
+    }
+    true
+}
+
+// A key as one number, its name before its index.
+fn key_number(name: u8, index: u16) -> u32
+    ensures { λ r. ⌜ (r ≡ name * 65536 + index) × (r < 16777216) ⌝ }
+{
+    (name as u32) * 65536 + (index as u32)
+}
+
+// The keys ascend, as definitions in the order of their names leave them, and so are distinct: no table is needed, and no
+// branch on an entry. Where this says no, keys_differ decides.
+fn keys_ascend(name: &[u8; 256], index: &[u16; 256], m: usize) -> bool
+    requires { ⌜ m ≤ 256 ⌝ }
+    ensures { λ r. ⌜ (r ≡ true → distinct sameKey
+        (map (λ (j : ℕ). entry (getD (now (name .entry)) j 0) (getD (now (index .entry)) j 0) 0) (upTo m)) ≡ true) ⌝ }
+{
+    let mut ascend = true;
+    let mut next: u32 = 0;
+    let mut i: usize = 0;
+    while i < m {
+        let key = key_number(name[i], index[i]);
+        ascend = ascend & (next <= key);
+        next = key + 1;
+        i += 1;
+    }
+    ascend
+}
+
+// The first m nodes are below n, without a branch on an entry.
+fn nodes_below(node: &[u16; 256], m: usize, n: usize) -> bool
+    requires { ⌜ m ≤ 256 ⌝ }
+    ensures { λ r. ⌜ r ≡ allOf (λ (v : ℕ). ltb v n) (map (λ (i : ℕ). getD (now (node .entry)) i 0) (upTo m)) ⌝ }
+{
+    let mut fit = true;
+    let mut i: usize = 0;
+    while i < m {
+        fit = fit & (file::to_index(node[i]) < n);
+        i += 1;
+    }
+    fit
+}
+
 // Keys are distinct, nodes below n.
 fn registers_fit(r: Registers, n: usize) -> bool
     requires { ⌜ r .count ≤ 256 ⌝ }
@@ -451,22 +510,16 @@ fn registers_fit(r: Registers, n: usize) -> bool
     if m == 0 {
         return true;
     }
-    let mut cells = [false; 2048];
     let name = r.name;
     let index = r.index;
-    let mut i: usize = 0;
-    while i < m {
-        if n <= file::to_index(r.node[i]) {
-            return false;
-        }
-        let k = cell_of(name[i], index[i]);
-        if is_taken(cells[k], &name, &index, i) {
-            return false;
-        }
-        cells[k] = true;
-        i += 1;
+    let node = r.node;
+    if !nodes_below(&node, m, n) {
+        return false;
     }
-    true
+    if keys_ascend(&name, &index, m) {
+        return true;
+    }
+    keys_differ(&name, &index, m)
 }
 
 // Whether a map keeps the clauses on a register map of a graph with n nodes.
