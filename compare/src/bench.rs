@@ -373,14 +373,15 @@ fn worst_layers(dag: &CircuitDag) -> CircuitDag {
     worst
 }
 
-/// 256 register keys, 16 a record, then records that measure keys which stand already: one key each, or 16.
-fn key_records(key: fn(usize) -> (u8, u16), records: usize, each: usize) -> Vec<Record> {
+/// 256 register keys, 16 a record, the largest first unless they are to ascend; then records that measure keys which stand already: one key each,
+/// or 16. Of keys that ascend along a map the check of soundness needs no table.
+fn key_records(key: fn(usize) -> (u8, u16), ascending: bool, records: usize, each: usize) -> Vec<Record> {
     let mut keys: Vec<(u8, u16)> = (0..256).map(key).collect();
     keys.sort();
     let list = |keys: &[(u8, u16)]| Record { front: false, kind: 0, label: 0, qubits: Qubits::Set(1), registers: Registers::Set(keys.to_vec()) };
     (0..records)
         .map(|k| {
-            let start = k * 16 % 256;
+            let start = if ascending { k * 16 % 256 } else { 240 - k * 16 % 256 };
             if k < 16 { list(&keys[start..start + 16]) } else { list(&keys[k * 37 / 16 % 16 * 16..][..each]) }
         })
         .collect()
@@ -391,12 +392,12 @@ pub fn worst_keys(turns: usize) {
     let spread: fn(usize) -> (u8, u16) = |j| ((j / 64) as u8, (j % 64) as u16);
     let one_cell: fn(usize) -> (u8, u16) = |j| ((8 * j % 256) as u8, (2048 * (j / 32) + 5) as u16);
     let mut lines = Vec::new();
-    for (name, key) in [("a cell each", spread), ("one cell for all", one_cell)] {
-        let dag = case(&key_records(key, 16, 16)).ours;
+    for (name, key, ascending) in [("ascending", spread, true), ("a cell each", spread, false), ("one cell for all", one_cell, false)] {
+        let dag = case(&key_records(key, ascending, 16, 16)).ours;
         assert!(dag.is_sound() && dag.last_registers.count == 256);
         let sound = sound_time(&dag, turns);
-        let one = load_times(&case(&key_records(key, 480, 1)), turns);
-        let all = load_times(&case(&key_records(key, 512, 16)), turns);
+        let one = load_times(&case(&key_records(key, ascending, 480, 1)), turns);
+        let all = load_times(&case(&key_records(key, ascending, 512, 16)), turns);
         let cells = |t: &Turns| format!("{:.1} | {:.1} | {:.2}", t.median(0), t.median(1), t.ratio(0, 1));
         lines.push(format!("| {name} | {sound:.2} | {} | {} |", cells(&one), cells(&all)));
     }
