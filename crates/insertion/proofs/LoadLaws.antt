@@ -16,16 +16,15 @@ use Rattle.file.specs.declared.FileCheck.the-variants.{Sound, Refused as BadFil
 use Rattle.file.proofs.PairLaws.{accepted}
 use Rattle.graph.specs.Dag.{empty}
 use Rattle.graph.proofs.ListLaws.{length-countFrom, at-all}
-use Rattle.file.specs.declared.Outcome.{Outcome}
 use Rattle.file.specs.declared.Outcome.the-variants.{Done, Refused}
 use Rattle.links.specs.declared.LinkedRecords.{LinkedRecords}
 use Rattle.links.specs.Linking.{noLinks, linkRecords}
 use Rattle.registers.specs.declared.Registered.{Registered}
 use Rattle.registers.specs.declared.RegisteredRecords.{RegisteredRecords}
-use Rattle.registers.specs.Registers.{enterRecords, joinedBy, registerRecords}
+use Rattle.registers.specs.Registers.{enterRecords, registerRecords}
 use Rattle.insertion.specs.Load.{notLoaded, insertRecords, load}
 use Rattle.insertion.specs.Parts.{nodeLists, nodesAfter, assembled}
-use Rattle.insertion.proofs.PartLaws.{Together, together, not-both}
+use Rattle.insertion.proofs.PartLaws.{Together, together}
 
 -- ---- `insert_in_order`
 
@@ -40,29 +39,20 @@ module _ (s l : List ℕ) (sure : checkFile s ≡ Sound) (below : allOf (λ i. l
   unfolding empty
   t = let z : links .accepted - 0 ≡ links .accepted = omega arith in subst (λ (n : ℕ). Together s empty l links (enterRecords s (take n l))) z (together s sure l below empty (omega arith))
 
-  -- the one answer of both parts
-  refuses-by : (a b : Outcome) → maps .answer ≡ a → links .answer ≡ b → (c : Refusal) → joinedBy a b links maps .registered .answer ≡ Refused c → notLoaded c ≡ insertRecords s empty l
-  refuses-by (Refused d) b p q c e = let y : c ≡ d = cc in rw y (sym (t .many d p))
-  refuses-by Done (Refused d) p q c e = let y : c ≡ d = cc in rw y (sym (t .stops d p q))
-  refuses-by Done Done p q c e = not-both c (sym p ∙ e)
-
-  makes-by : (a b : Outcome) → maps .answer ≡ a → links .answer ≡ b → (y : RegisteredRecords) → y ≡ joinedBy a b links maps → y .registered .answer ≡ Done
-      → record { answer = Done; graph = assembled (nodesAfter s (nodeLists empty) l) (y .linked) (y .registered) } ≡ insertRecords s empty l
-  makes-by (Refused d) b p q y m e = not-both d (sym e ∙ ap (λ (y : RegisteredRecords). y .registered .answer) m)
-  makes-by Done (Refused d) p q y m e = not-both d (sym e ∙ ap (λ (y : RegisteredRecords). y .registered .answer) m)
-  makes-by Done Done p q y m e =
-      ap (λ (y : RegisteredRecords). record { answer = Done; graph = assembled (nodesAfter s (nodeLists empty) l) (y .linked) (y .registered) }) m ∙ sym (t .whole p q)
-
   module _ (y : RegisteredRecords) (made : y ≡ registerRecords s l) where
-    by-parts : y ≡ joinedBy (maps .answer) (links .answer) links maps
+    parts : Together s empty l (y .linked) (y .registered)
     unfolding registerRecords
-    by-parts = made
+    parts = subst (λ (y : RegisteredRecords). Together s empty l (y .linked) (y .registered)) (sym made) t
 
-    pub refuses : (c : Refusal) → y .registered .answer ≡ Refused c → notLoaded c ≡ insertRecords s empty l
-    refuses c e = refuses-by (maps .answer) (links .answer) refl refl c (sym (ap (λ (y : RegisteredRecords). y .registered .answer) by-parts) ∙ e)
+    pub maps-refuse : (c : Refusal) → y .registered .answer ≡ Refused c → notLoaded c ≡ insertRecords s empty l
+    maps-refuse c e = sym (parts .many c e)
 
-    pub makes : y .registered .answer ≡ Done → record { answer = Done; graph = assembled (nodesAfter s (nodeLists empty) l) (y .linked) (y .registered) } ≡ insertRecords s empty l
-    makes e = makes-by (maps .answer) (links .answer) refl refl y by-parts e
+    module _ (done : y .registered .answer ≡ Done) where
+      pub links-refuse : (c : Refusal) → y .linked .answer ≡ Refused c → notLoaded c ≡ insertRecords s empty l
+      links-refuse c e = sym (parts .stops c done e)
+
+      pub both-accept : y .linked .answer ≡ Done → record { answer = Done; graph = assembled (nodesAfter s (nodeLists empty) l) (y .linked) (y .registered) } ≡ insertRecords s empty l
+      both-accept e = sym (parts .whole done e)
 
 -- ---- `load`
 

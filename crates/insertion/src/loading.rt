@@ -42,7 +42,8 @@ pub(crate) fn file_order() -> [u16; 512]
     order
 }
 
-// The records with these numbers of a file that passed the check, one after the other, on the empty graph.
+// The records with these numbers of a file that passed the check, one after the other, on the empty graph. A refusal by
+// the register maps comes before one by the links: the maps are made of the records before it.
 pub(crate) fn insert_in_order(file: &[u8], order: &[u16]) -> Loaded
     requires { ⌜ (checkFile (now file) ≡ Sound) × (allOf (λ i. ltb i (countOf (now file))) (now order) ≡ true)
         × (length (now order) ≤ 512) ⌝ }
@@ -50,13 +51,18 @@ pub(crate) fn insert_in_order(file: &[u8], order: &[u16]) -> Loaded
 {
     let x = registers::register_records(file, order);
     let registered = x.registered;
-    let answer = registered.answer;
+    let entered = registered.answer;
+    if let Outcome::Refused(cause) = entered {
+        return not_loaded(cause);
+    }
+    let linked = x.linked;
+    let answer = linked.answer;
     if let Outcome::Refused(cause) = answer {
         return not_loaded(cause);
     }
     Loaded {
         answer: Outcome::Done,
-        graph: assemble(list_nodes(file, order), x.linked, registered),
+        graph: assemble(list_nodes(file, order), linked, registered),
     }
 }
 

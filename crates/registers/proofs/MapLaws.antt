@@ -15,9 +15,6 @@ use Rattle.file.specs.Records.{front, classicalOf, recordRule, recordOf}
 use Rattle.file.specs.declared.InvolvedClassical.{InvolvedClassical}
 use Rattle.file.specs.declared.InvolvedClassical.the-variants.{None}
 use Rattle.file.specs.declared.Record.{Record}
-use Rattle.file.specs.declared.Outcome.{Outcome}
-use Rattle.file.specs.declared.Outcome.the-variants.{Done, Refused}
-use Rattle.file.specs.declared.Refusal.{Refusal}
 use Rattle.file.specs.declared.Refusal.the-variants.{BadRecord, TooManyNodes, TooManyRegisters, Unsound}
 use Rattle.graph.specs.declared.NodeIndex.{NodeIndex}
 use Rattle.graph.specs.declared.Registers.{Registers}
@@ -29,7 +26,7 @@ use Rattle.links.specs.declared.LinkedRecords.{LinkedRecords}
 use Rattle.links.specs.Linking.{noLinks, linkRecords}
 use Rattle.links.proofs.LinkingLaws.{links-between}
 use Rattle.registers.specs.declared.Registered.{Registered}
-use Rattle.registers.specs.Registers.{Maps, withEntries, registersAfter, mapsAfter, mapsPass, registersOf, stored, mapsStopped, mapsKept, registersFrom, enterRecords, recordsStopped, joinedBy, registerRecords, registerRecord}
+use Rattle.registers.specs.Registers.{Maps, withEntries, registersAfter, mapsAfter, mapsPass, registersOf, stored, mapsStopped, mapsKept, registersFrom, enterRecords, registerRecords, registerRecord}
 use Rattle.registers.specs.RegisterMaps.{registers, Fits, EndsBecome, pass}
 use Rattle.registers.proofs.RegisterLaws.{ends-nothing, ends-fit, fits-none}
 
@@ -139,20 +136,9 @@ module _ (file order : List ℕ) (x : LinkedRecords) (made : x ≡ linkRecords f
   pub accepted-few : (x .accepted ≤ length order) × (x .accepted ≤ 512)
   accepted-few = let b = links-between file order noLinks in rw made (omega (arith, b .high), b .few (omega arith))
 
-  module _ (r : Registered) (entered : r ≡ enterRecords file (take (x .accepted - 0) (drop 0 order))) where
-    joined : joinedBy (r .answer) (x .answer) x r ≡ registerRecords file order
-    unfolding registerRecords
-    joined = let z : x .accepted - 0 ≡ x .accepted = omega arith in rw (entered, z, made) refl
-
-    pub maps-refuse : (c : Refusal) → r .answer ≡ Refused c → recordsStopped (r .accepted) c ≡ registerRecords file order
-    maps-refuse c e = sym (ap (λ (a : Outcome). joinedBy a (x .answer) x r) e) ∙ joined
-
-    module _ (done : r .answer ≡ Done) where
-      pub links-refuse : (c : Refusal) → x .answer ≡ Refused c → recordsStopped (x .accepted) c ≡ registerRecords file order
-      links-refuse c e = sym (λ j. joinedBy (done j) (e j) x r) ∙ joined
-
-      pub both-accept : x .answer ≡ Done → record { linked = x; registered = r } ≡ registerRecords file order
-      both-accept e = sym (λ j. joinedBy (done j) (e j) x r) ∙ joined
+  pub joined : (r : Registered) → r ≡ enterRecords file (take (x .accepted - 0) (drop 0 order)) → record { linked = x; registered = r } ≡ registerRecords file order
+  unfolding registerRecords
+  joined r entered = let z : x .accepted - 0 ≡ x .accepted = omega arith in rw (entered, z, made) refl
 
 -- ---- One record on maps that are handed in
 

@@ -17,8 +17,8 @@ pub struct Registered {
     pub last: Registers,
 }
 
-// The ends and edges of a list of records, and their register maps. Both have the one answer: the first refusal in the
-// order of insertion.
+// The ends and edges of a list of records, and their register maps. Each has its answer. The maps see only the records
+// before the links' first refusal, so that a refusal of the maps is the earlier one.
 pub struct RegisteredRecords {
     pub linked: LinkedRecords,
     pub registered: Registered,

@@ -6,7 +6,7 @@ ghost use Prim.Native.Nat.{_≤_};
 ghost use lib.Dec.{ltb};
 ghost use lib.ListN.{length};
 ghost use Rattle.graph.specs.Soundness.{registerMapRule};
-ghost use Rattle.registers.specs.Registers.{registersOf, mapsStopped, mapsKept, enterRecords, recordsStopped, registerRecords, registerRecord};
+ghost use Rattle.registers.specs.Registers.{registersOf, mapsStopped, mapsKept, enterRecords, registerRecords, registerRecord};
 ghost use Rattle.registers.specs.RegisterMaps.{registers};
 use crate::Registered;
 use crate::RegisteredRecords;
@@ -18,7 +18,6 @@ use file::Parsed;
 use file::Refusal;
 use graph::NodeIndex;
 use graph::Registers;
-use links::LinkedRecords;
 
 // Whether a register map would pass 256.
 fn maps_pass(m: EndCounts) -> bool
@@ -146,25 +145,9 @@ fn enter_records(file: &[u8], order: &[u16]) -> Registered
     )
 }
 
-// The refusal of the record after k accepted ones, of the links and the maps.
-fn records_stopped(k: usize, r: Refusal) -> RegisteredRecords
-    ensures { λ x. ⌜ x ≡ recordsStopped k r ⌝ }
-{
-    RegisteredRecords {
-        linked: LinkedRecords {
-            accepted: k,
-            answer: Outcome::Refused(r),
-            edges: graph::no_edges(),
-            first: graph::no_end(),
-            last: graph::no_end(),
-        },
-        registered: maps_stopped(k, r),
-    }
-}
-
-// The file's records with these numbers, one after the other, as nodes 0, 1, 2, ..: each 2, 1, 8, 3 where the file has
-// it not, then 4 to 7. The maps see only the records before the links' first refusal, so that theirs, if there is one,
-// is the earlier.
+// The file's records with these numbers, one after the other, as nodes 0, 1, 2, ..: the links refuse 2, 1, 8, 3 where
+// the file has a record not, then 4 to 6, the maps 7. The maps see only the records before the links' first refusal, so
+// that theirs, if there is one, is the earlier.
 pub fn register_records(file: &[u8], order: &[u16]) -> RegisteredRecords
     ensures { λ r. ⌜ r ≡ registerRecords (now (file .entry)) (now (order .entry)) ⌝ }
 {
@@ -172,14 +155,6 @@ pub fn register_records(file: &[u8], order: &[u16]) -> RegisteredRecords
     let start: usize = 0;
     let accepted = linked.accepted;
     let registered = enter_records(file, &order[start..accepted]);
-    let entered = registered.answer;
-    if let Outcome::Refused(cause) = entered {
-        return records_stopped(registered.accepted, cause);
-    }
-    let answer = linked.answer;
-    if let Outcome::Refused(cause) = answer {
-        return records_stopped(accepted, cause);
-    }
     RegisteredRecords { linked, registered }
 }
 
