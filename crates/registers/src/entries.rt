@@ -1,6 +1,7 @@
 // The register maps of a circuit, lent as plain arrays: entry i has the key (name[i], index[i]) and the node node[i]. The rules are
 // in specs/Registers.antt, what the functions answer in specs/RegisterMaps.antt.
-// `hints` says where a key may stand. It is a guess: it is compared with the key before use, and nothing is promised of it.
+// `hints` says where a key may stand, a position below 256, so that a byte holds it. It is a guess: it is compared with
+// the key before use, and nothing is promised of it.
 ghost use mathlib.Core.Path.{_≡_};
 ghost use mathlib.Core.List.{_++_, _∷_, []};
 ghost use Prim.Native.Nat.{_<_, _≤_, _+_};
@@ -17,6 +18,13 @@ fn hint_cell(key: RegisterKey) -> usize
     ensures { λ r. ⌜ r < 2048 ⌝ }
 {
     ((key.name as usize) * 256 + (key.index as usize)) % 2048
+}
+
+// A guess, to index with. A call, since `hints[cell] as usize` would ask that the element fits.
+fn hint_place(hint: u8) -> usize
+    ensures { λ r. ⌜ r ≡ hint ⌝ }
+{
+    hint as usize
 }
 
 // The key's position among the entries, by comparing each.
@@ -40,7 +48,7 @@ fn scan_keys(name: &[u8; 256], index: &[u16; 256], count: usize, key: RegisterKe
 fn find_key(
     name: &[u8; 256],
     index: &[u16; 256],
-    hints: &[u16; 2048],
+    hints: &[u8; 2048],
     count: usize,
     key: RegisterKey,
 ) -> usize
@@ -48,7 +56,7 @@ fn find_key(
     ensures { λ r. ⌜ Found count (now (name .entry)) (now (index .entry)) key r ⌝ }
 {
     let cell = hint_cell(key);
-    let p = file::to_index(hints[cell]);
+    let p = hint_place(hints[cell]);
     if p < count {
         if name[p] == key.name {
             if index[p] == key.index {
@@ -64,7 +72,7 @@ fn append_key(
     name: &mut [u8; 256],
     index: &mut [u16; 256],
     node: &mut [u16; 256],
-    hints: &mut [u16; 2048],
+    hints: &mut [u8; 2048],
     count: usize,
     key: RegisterKey,
     v: NodeIndex,
@@ -77,7 +85,7 @@ fn append_key(
     name[count] = key.name;
     index[count] = key.index;
     node[count] = v.0;
-    hints[hint_cell(key)] = count as u16;
+    hints[hint_cell(key)] = count as u8;
     count + 1
 }
 
@@ -86,7 +94,7 @@ fn put_key(
     name: &mut [u8; 256],
     index: &mut [u16; 256],
     node: &mut [u16; 256],
-    hints: &mut [u16; 2048],
+    hints: &mut [u8; 2048],
     count: usize,
     key: RegisterKey,
     v: NodeIndex,
@@ -121,12 +129,12 @@ fn set_keys(
     near_name: &mut [u8; 256],
     near_index: &mut [u16; 256],
     near_node: &mut [u16; 256],
-    near_hints: &mut [u16; 2048],
+    near_hints: &mut [u8; 2048],
     near_count: usize,
     far_name: &mut [u8; 256],
     far_index: &mut [u16; 256],
     far_node: &mut [u16; 256],
-    far_hints: &mut [u16; 2048],
+    far_hints: &mut [u8; 2048],
     far_count: usize,
 ) -> RegisterCounts
     requires { ⌜ Fits (registers «near_count» (now «near_name») (now «near_index») (now «near_node»))
@@ -197,7 +205,7 @@ fn append_keys(
     name: &mut [u8; 256],
     index: &mut [u16; 256],
     node: &mut [u16; 256],
-    hints: &mut [u16; 2048],
+    hints: &mut [u8; 2048],
     there: &[bool; 256],
     count: usize,
     key_name: u8,
@@ -235,7 +243,7 @@ fn define_keys(
     name: &mut [u8; 256],
     index: &mut [u16; 256],
     node: &mut [u16; 256],
-    hints: &mut [u16; 2048],
+    hints: &mut [u8; 2048],
     count: usize,
     key_name: u8,
     m: u16,
@@ -258,7 +266,7 @@ fn keep_name(
     name: &mut [u8; 256],
     index: &mut [u16; 256],
     node: &mut [u16; 256],
-    hints: &mut [u16; 2048],
+    hints: &mut [u8; 2048],
     count: usize,
     key_name: u8,
     v: NodeIndex,
@@ -292,7 +300,7 @@ fn join_map(
     name: &mut [u8; 256],
     index: &mut [u16; 256],
     node: &mut [u16; 256],
-    hints: &mut [u16; 2048],
+    hints: &mut [u8; 2048],
     count: usize,
 ) -> usize
     requires { ⌜ Fits (registers count (now name) (now index) (now node)) ⌝ }
@@ -323,12 +331,12 @@ fn enter_maps(
     near_name: &mut [u8; 256],
     near_index: &mut [u16; 256],
     near_node: &mut [u16; 256],
-    near_hints: &mut [u16; 2048],
+    near_hints: &mut [u8; 2048],
     near_count: usize,
     far_name: &mut [u8; 256],
     far_index: &mut [u16; 256],
     far_node: &mut [u16; 256],
-    far_hints: &mut [u16; 2048],
+    far_hints: &mut [u8; 2048],
     far_count: usize,
 ) -> RegisterCounts
     requires { ⌜ Fits (registers «near_count» (now «near_name») (now «near_index») (now «near_node»))
@@ -394,12 +402,12 @@ pub(crate) fn enter_record(
     first_name: &mut [u8; 256],
     first_index: &mut [u16; 256],
     first_node: &mut [u16; 256],
-    first_hints: &mut [u16; 2048],
+    first_hints: &mut [u8; 2048],
     first_count: usize,
     last_name: &mut [u8; 256],
     last_index: &mut [u16; 256],
     last_node: &mut [u16; 256],
-    last_hints: &mut [u16; 2048],
+    last_hints: &mut [u8; 2048],
     last_count: usize,
 ) -> EndCounts
     requires { ⌜ Fits (registers «first_count» (now «first_name») (now «first_index») (now «first_node»))

@@ -92,11 +92,11 @@ fn enter_records(file: &[u8], order: &[u16]) -> Registered
     let mut first_name = [0u8; 256];
     let mut first_index = [0u16; 256];
     let mut first_node = [0u16; 256];
-    let mut first_hints = [0u16; 2048];
+    let mut first_hints = [0u8; 2048];
     let mut last_name = [0u8; 256];
     let mut last_index = [0u16; 256];
     let mut last_node = [0u16; 256];
-    let mut last_hints = [0u16; 2048];
+    let mut last_hints = [0u8; 2048];
     let mut first = 0usize;
     let mut last = 0usize;
     let mut k: usize = 0;
@@ -196,11 +196,11 @@ pub fn register_record(first: Registers, last: Registers, part: &[u8], v: NodeIn
     let mut first_name = first.name;
     let mut first_index = first.index;
     let mut first_node = first.node;
-    let mut first_hints = [0u16; 2048];
+    let mut first_hints = [0u8; 2048];
     let mut last_name = last.name;
     let mut last_index = last.index;
     let mut last_node = last.node;
-    let mut last_hints = [0u16; 2048];
+    let mut last_hints = [0u8; 2048];
     let front = r.front;
     let m = enter_record(
         front,

@@ -26,9 +26,6 @@ cast-hints c = search needs
 hint-cell-requires : tie.Need-hint-cell-requires
 hint-cell-requires c κs = search needs
 
-mul-hints : tie.Need-mul-hints
-mul-hints c = search needs
-
 element-write-hints : tie.Need-element-write-hints
 element-write-hints c = search needs
 
@@ -49,7 +46,6 @@ append-key-spec =
     element-write-node
     cast-hints
     hint-cell-requires
-    mul-hints
     element-write-hints
     add-result
     returns)
