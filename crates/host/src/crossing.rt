@@ -41,8 +41,6 @@ pub(crate) fn dag_of(dag: HostDag) -> CircuitDag
 {
     let first = dag.first;
     let last = dag.last;
-    let first = end_of(first);
-    let last = end_of(last);
     let nodes = dag.nodes;
     let edges = dag.edges;
     let first_registers = dag.first_registers;
@@ -51,8 +49,8 @@ pub(crate) fn dag_of(dag: HostDag) -> CircuitDag
     CircuitDag {
         nodes,
         edges,
-        first,
-        last,
+        first: end_of(first),
+        last: end_of(last),
         first_registers,
         last_registers,
         commuting,
@@ -79,8 +77,6 @@ pub(crate) fn host_dag(dag: CircuitDag) -> HostDag
 {
     let first = dag.first;
     let last = dag.last;
-    let first = host_end(first);
-    let last = host_end(last);
     let nodes = dag.nodes;
     let edges = dag.edges;
     let first_registers = dag.first_registers;
@@ -89,8 +85,8 @@ pub(crate) fn host_dag(dag: CircuitDag) -> HostDag
     HostDag {
         nodes,
         edges,
-        first,
-        last,
+        first: host_end(first),
+        last: host_end(last),
         first_registers,
         last_registers,
         commuting,

@@ -13,7 +13,7 @@ end-of-requires-2 c κs = search needs
 
 returns : tie.Need-returns
 unfolding dagOf
-returns c = let d = c .before .before .before .before .before in rw (d .before .end-of .ensures, d .end-of2 .ensures) refl
+returns c = rw (c .before .end-of .ensures, c .end-of2 .ensures) refl
 
 pub dag-of-spec : {M : Type 1} → statement M
 dag-of-spec = tie.close (tie.spec end-of-requires end-of-requires-2 returns)

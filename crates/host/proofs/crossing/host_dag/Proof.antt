@@ -13,7 +13,7 @@ host-end-requires-2 c κs = search needs
 
 returns : tie.Need-returns
 unfolding hostOf
-returns c = let d = c .before .before .before .before .before in rw (d .before .host-end .ensures, d .host-end2 .ensures) refl
+returns c = rw (c .before .host-end .ensures, c .host-end2 .ensures) refl
 
 pub host-dag-spec : {M : Type 1} → statement M
 host-dag-spec = tie.close (tie.spec host-end-requires host-end-requires-2 returns)
