@@ -3,7 +3,8 @@ use Prim.Native.Nat.{ℕ}
 use Rattle.file.specs.declared.Refusal.{Refusal}
 use Rattle.file.specs.declared.RefusalValue.{RefusalValue}
 use Rattle.file.specs.declared.RefusalValue.the-variants.{Nothing, At}
-use Rattle.file.specs.declared.Refusal.the-variants.{FileTooShort, TooManyRecords, BadPair, BadRecord, TooManyNodes, TooManyEdges, TooManyRegisters, Absent, NotInLayer, ShortBuffer, Unsound}
+use Rattle.file.specs.declared.Refusal.the-variants.{FileTooShort, TooManyRecords, BadPair, BadRecord, TooManyNodes, TooManyEdges}
+use Rattle.file.specs.declared.Refusal.the-variants.{TooManyRegisters, Absent, NotInLayer, ShortBuffer, Unsound}
 
 -- "| cause | number |"
 abbrev pub numberOf : Refusal → ℕ

@@ -17,7 +17,8 @@ use Rattle.graph.specs.Dag.{Edge, Entry, size, atQubit, edgeAt, edgesOf,
 use Rattle.graph.specs.Soundness.{named, ifPresent, operationAt, samePlace, placeWithin, ascends, keysDistinct, sound}
 use Rattle.file.proofs.BoolLaws.{bool-cases, clash-bool, not-true, and-l, and-r, and-intro, flip-not}
 use Rattle.graph.proofs.ListLaws.{upTo-all, all-upTo, upTo-distinct, distinct-upTo, upTo-any, upTo-none, members-all, all-members}
-use Rattle.graph.proofs.SoundnessLaws.{Sound, NamesFit, sound-told, told-sound, and3, and3-intro, all-named, named-all, named-node, same-told, told-same, taken-ascends, taken-all, ascends-taken, all-taken, registers-told, told-entries, told-keys}
+use Rattle.graph.proofs.SoundnessLaws.{Sound, NamesFit, sound-told, told-sound, and3, and3-intro, all-named, named-all, named-node, same-told}
+use Rattle.graph.proofs.SoundnessLaws.{told-same, taken-ascends, taken-all, ascends-taken, all-taken, registers-told, told-entries, told-keys}
 use Rattle.graph.proofs.CheckLaws.{within, placesClause, edgeTest, edgesClause, fromAt, toAt, startTest, commutingClause, registersClause, targetsOf}
 
 -- what the checks of the parts answer

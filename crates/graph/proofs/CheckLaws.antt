@@ -19,9 +19,11 @@ use Rattle.graph.specs.declared.Edges.{Edges}
 use Rattle.graph.specs.declared.Registers.{Registers}
 use Rattle.graph.specs.Dag.{Edge, Entry, edgeAt, entryAt, entry, sameEdge, sameKey}
 use Rattle.graph.specs.Soundness.{ifPresent, samePlace, ascends, keysDistinct}
-use Rattle.file.proofs.BoolLaws.{bool-cases, clash-bool, not-true, not-false, bool-ext, and-l, and-r, and-intro, and-cases, or-cases, or-l, or-r, flip-not, split-lt}
+use Rattle.file.proofs.BoolLaws.{bool-cases, clash-bool, not-true, not-false, bool-ext, and-l, and-r, and-intro, and-cases, or-cases, or-l, or-r}
+use Rattle.file.proofs.BoolLaws.{flip-not, split-lt}
 use Rattle.graph.proofs.BitLaws.{markAt, MarkedBits, bits-more, no-bits}
-use Rattle.graph.proofs.ListLaws.{at-any, at-none, at-all, all-at, all-here, all-fails, upTo-all, all-upTo, upTo-distinct, distinct-upTo, upTo-any, any-upTo, upTo-none, members-all, all-members}
+use Rattle.graph.proofs.ListLaws.{at-any, at-none, at-all, all-at, all-here, all-fails, upTo-all, all-upTo, upTo-distinct, distinct-upTo}
+use Rattle.graph.proofs.ListLaws.{upTo-any, any-upTo, upTo-none, members-all, all-members}
 use Rattle.graph.proofs.PlaceLaws.{place-read}
 use Rattle.graph.proofs.SoundnessLaws.{same-told, told-same, ascends-taken, all-taken, taken-ascends, taken-all}
 

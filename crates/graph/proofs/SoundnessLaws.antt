@@ -17,10 +17,13 @@ use Rattle.file.specs.Lists.{anyOf, allOf, distinct, countFrom, upTo, markedFro
 use Rattle.graph.specs.declared.End.{End}
 use Rattle.graph.specs.declared.Registers.{Registers}
 use Rattle.graph.specs.declared.CircuitDag.{CircuitDag}
-use Rattle.graph.specs.Dag.{noEnd, noRegisters, empty, Node, Edge, Entry, absent, present, size, atQubit, nodeAt, nodesOf, edgesOf, edgeAt, entryAt, entriesOf, commutingOf, placeOf, sameEdge, sameKey}
-use Rattle.graph.specs.Soundness.{countsFit, endsAddUp, named, ifPresent, numbersBelow, operationAt, nameOperations, samePlace, placeWithin, placesRule, ascends, commutingAscends, keysDistinct, edgesRule, firstBlockRule, sound}
+use Rattle.graph.specs.Dag.{noEnd, noRegisters, empty, Node, Edge, Entry, absent, present, size, atQubit, nodeAt, nodesOf, edgesOf, edgeAt}
+use Rattle.graph.specs.Dag.{entryAt, entriesOf, commutingOf, placeOf, sameEdge, sameKey}
+use Rattle.graph.specs.Soundness.{countsFit, endsAddUp, named, ifPresent, numbersBelow, operationAt, nameOperations, samePlace, placeWithin}
+use Rattle.graph.specs.Soundness.{placesRule, ascends, commutingAscends, keysDistinct, edgesRule, firstBlockRule, sound}
 use Rattle.file.proofs.BoolLaws.{bool-cases, clash-bool, not-true, and-l, and-r, and-intro, or-cases, or-inl, or-inr, flip-not}
-use Rattle.graph.proofs.ListLaws.{all-at, at-all, all-append, all-upTo, upTo-all, distinct-upTo, upTo-distinct, upTo-any, upTo-none, members-all, all-members}
+use Rattle.graph.proofs.ListLaws.{all-at, at-all, all-append, all-upTo, upTo-all, distinct-upTo, upTo-distinct, upTo-any, upTo-none}
+use Rattle.graph.proofs.ListLaws.{members-all, all-members}
 
 -- ---- the facts
 

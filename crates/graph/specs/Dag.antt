@@ -82,7 +82,12 @@ size g = g .nodes .count
 
 -- what node v keeps
 abbrev pub nodeAt : CircuitDag → ℕ → Node
-nodeAt g v = record { kind = getD (g .nodes .kind) v 0; form = getD (g .nodes .form) v 0; label = getD (g .nodes .label) v 0; place = getD (g .nodes .place) v (pos 0) }
+nodeAt g v = record {
+  kind = getD (g .nodes .kind) v 0;
+  form = getD (g .nodes .form) v 0;
+  label = getD (g .nodes .label) v 0;
+  place = getD (g .nodes .place) v (pos 0);
+}
 
 -- the place of node v
 abbrev pub placeOf : CircuitDag → ℕ → ℤ

@@ -15,7 +15,8 @@ use Rattle.graph.specs.Dag.{size}
 use Rattle.graph.specs.Soundness.{countsFit, sound}
 use Rattle.graph.proofs.SoundnessLaws.{sound-clauses}
 use Rattle.queries.specs.Queries.{Lent, refuses, executionBlocked, blockingPredecessors, successors, newFrontLayer}
-use Rattle.queries.proofs.QueryLaws.{successors-unsound, successors-absent, blocked-unsound, blocked-absent, predecessors-unsound, predecessors-absent, layer-unsound, layer-absent}
+use Rattle.queries.proofs.QueryLaws.{successors-unsound, successors-absent, blocked-unsound, blocked-absent, predecessors-unsound}
+use Rattle.queries.proofs.QueryLaws.{predecessors-absent, layer-unsound, layer-absent}
 use Rattle.file.specs.declared.Refusal.the-variants.{Absent, Unsound}
 use Rattle.host.specs.Answers.{HostLent, noNode, lent}
 

@@ -1,6 +1,7 @@
 // Each answer of the crates below as two numbers.
 ghost use mathlib.Core.Path.{_≡_};
-ghost use Rattle.host.specs.Answers.{numberOr, accepts, refuses, noNode, ofQuery, ofInserted, ofLoaded, ofStep, ofWalk, ofPlace, noKept, ofGot, ofOperation, noOperation};
+ghost use Rattle.host.specs.Answers.{numberOr, accepts, refuses, noNode, ofQuery, ofInserted, ofLoaded, ofStep, ofWalk, ofPlace, noKept, ofGot};
+ghost use Rattle.host.specs.Answers.{ofOperation, noOperation};
 use crate::HostAnswer;
 use crate::HostNode;
 use crate::HostPlace;

@@ -34,7 +34,9 @@ use Rattle.links.proofs.LinkLaws.{others-distinct}
 use Rattle.registers.proofs.RegisterLaws.{fits-none}
 use Rattle.insertion.proofs.SafeEnds.{all-same, Side, Joins, named-old, near-side, far-side, joins-by}
 use Rattle.insertion.proofs.SafeEdges.{between, lies, link-rises, EdgesSafe, Meets, meets-below, near-meets, far-meets, edges-more}
-use Rattle.insertion.proofs.SafeNodes.{operates, record-kind, record-operates, NodesSafe, moreNodes, operatesAt, placeAt, operates-same, operates-here, place-same, place-here, nodes-more, CommutingSafe, commuting-more, RegistersSafe, registers-more}
+use Rattle.insertion.proofs.SafeNodes.{operates, record-kind, record-operates, NodesSafe, moreNodes, operatesAt, placeAt, operates-same}
+use Rattle.insertion.proofs.SafeNodes.{operates-here, place-same, place-here, nodes-more, CommutingSafe, commuting-more, RegistersSafe}
+use Rattle.insertion.proofs.SafeNodes.{registers-more}
 
 -- ---- what every built graph keeps
 

@@ -33,7 +33,8 @@ use Rattle.insertion.specs.declared.nodes.NodeLists.{NodeLists}
 use Rattle.insertion.specs.Insertion.{commutes, grown}
 use Rattle.insertion.specs.Limits.{refused, edgesPass, insertAs, insertOf}
 use Rattle.insertion.specs.Parts.{nodeLists, nodeAfter, assembled}
-use Rattle.insertion.proofs.PartLaws.{linksOf, mapsOf, not-both, full, over, many, grows, links-full, links-over, links-grown, maps-pass, registers-at, nodes-at}
+use Rattle.insertion.proofs.PartLaws.{linksOf, mapsOf, not-both, full, over, many, grows, links-full, links-over, links-grown, maps-pass}
+use Rattle.insertion.proofs.PartLaws.{registers-at, nodes-at}
 
 -- m numbers below n that rise are no more than n
 rising : (f : ℕ → ℕ) (m : ℕ) → ((i j : ℕ) → i < j → j < m → f i < f j) → (i : ℕ) → i < m → i ≤ f i

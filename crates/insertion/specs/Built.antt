@@ -10,7 +10,8 @@ use Rattle.file.specs.Lists.{keep, upTo}
 use Rattle.file.specs.Pairs.{countOf, checkFile, recordAt}
 use Rattle.file.specs.declared.FileCheck.the-variants.{Sound}
 use Rattle.file.specs.declared.Refusal.{Refusal}
-use Rattle.file.specs.declared.Refusal.the-variants.{FileTooShort, TooManyRecords, BadPair, BadRecord, TooManyNodes, TooManyEdges, TooManyRegisters, Absent, NotInLayer, ShortBuffer, Unsound}
+use Rattle.file.specs.declared.Refusal.the-variants.{FileTooShort, TooManyRecords, BadPair, BadRecord, TooManyNodes, TooManyEdges, TooManyRegisters}
+use Rattle.file.specs.declared.Refusal.the-variants.{Absent, NotInLayer, ShortBuffer, Unsound}
 use Rattle.graph.specs.Soundness.{sound}
 use Rattle.insertion.specs.declared.Answer.the-variants.{Refused}
 use Rattle.insertion.specs.declared.Inserted.{Inserted}

@@ -1,5 +1,6 @@
--- What private functions promise: the nodes of a list of records, and the graph put together. Neither the nodes with the commuting list, nor the ends with their edges (crate links), nor the register
--- maps (crate registers) read the others, so that a load makes each in a loop of its own. Assumes nothing.
+-- What private functions promise: the nodes of a list of records, and the graph put together. Neither the nodes with the
+-- commuting list, nor the ends with their edges (crate links), nor the register maps (crate registers) read the others,
+-- so that a load makes each in a loop of its own. Assumes nothing.
 use mathlib.Core.Bool.{cond}
 use mathlib.Core.List.{List, [], _∷_}
 use Prim.Native.Nat.{ℕ, _+_}

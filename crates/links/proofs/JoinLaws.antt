@@ -17,7 +17,8 @@ use Rattle.graph.specs.declared.NodeIndex.{NodeIndex}
 use Rattle.graph.specs.declared.End.{End}
 use Rattle.file.proofs.BoolLaws.{bool-cases, both-true, clash-bool}
 use Rattle.links.specs.Links.{Linked, nearAll, source, qubits, linkQubits, linkSet, linkAll, linkBy}
-use Rattle.links.specs.Ends.{EndState, several, Only, endWith, endOf, EndFits, SetLinked, AllLinked, StateGrown, nearState, farState, Joined, JoinedBy, JoinedEndsBy}
+use Rattle.links.specs.Ends.{EndState, several, Only, endWith, endOf, EndFits, SetLinked, AllLinked, StateGrown, nearState, farState, Joined}
+use Rattle.links.specs.Ends.{JoinedBy, JoinedEndsBy}
 use Rattle.links.proofs.QubitLaws.{all-first, all-rest, qubits-none, qubits-next, qubits-below}
 use Rattle.links.proofs.LinkLaws.{none-first, none-rest, linkOne}
 use Rattle.links.proofs.LinkLoops.{Within, or-within, set-within, becomes}

@@ -74,7 +74,8 @@ pub record OtherAdded (s k : ℕ) (before after : List ℕ) (r : ℕ) : Type 0 w
   pub size : length after ≡ 64
 
 -- "Set, each qubit q", in near's map and block, far's map and the others, of which k stand: far's other parts, e and b, stay
-pub record SetLinked (m v : ℕ) (all : NodeIndex) (near far : List ℕ) (block : List Bool) (near′ far′ : List ℕ) (block′ : List Bool) (others : List ℕ) (k : ℕ) : Type 0 where
+pub record SetLinked (m v : ℕ) (all : NodeIndex) (near far : List ℕ) (block : List Bool)
+    (near′ far′ : List ℕ) (block′ : List Bool) (others : List ℕ) (k : ℕ) : Type 0 where
   pub is : (e : NodeIndex) (b : List Bool)
       → linkQubits nearAll (qubits m) v (record { near = endWith near all block; far = endWith far e b; others = [] })
       ≡ record { near = endWith near′ all block′; far = endWith far′ e b; others = take k others }
@@ -136,12 +137,14 @@ pub record JoinedBy (x : Linked) (n : ℕ) (r : Joined) (nearNode farNode : List
 
 -- the edge arrays after v was joined with the first k of the others, behind count edges: "add source to v", "edges out of v" at the front
 pub record EdgesAdded (front : Bool) (v : ℕ) (others : List ℕ) (k count : ℕ) (from to from′ to′ : List ℕ) : Type 0 where
-  pub is : _≡_ {A = Edges} (record { count = count + k; from = from′; to = to′ }) (withEdges (record { count = count; from = from; to = to }) (map (link front v) (take k others)))
+  pub is : _≡_ {A = Edges} (record { count = count + k; from = from′; to = to′ })
+      (withEdges (record { count = count; from = from; to = to }) (map (link front v) (take k others)))
   pub from-size : length from′ ≡ 2048
   pub to-size : length to′ ≡ 2048
 
 -- first and last after the new node joined them: near is last at the back and first at the front
-pub record JoinedEndsBy (front : Bool) (x : Linked) (n : ℕ) (r : JoinedEnds) (firstNode lastNode : List ℕ) (firstBlock lastBlock : List Bool) (others : List ℕ) : Type 0 where
+pub record JoinedEndsBy (front : Bool) (x : Linked) (n : ℕ) (r : JoinedEnds)
+    (firstNode lastNode : List ℕ) (firstBlock lastBlock : List Bool) (others : List ℕ) : Type 0 where
   pub first : endOf firstNode (r .first) firstBlock ≡ cond front (x .near) (x .far)
   pub last : endOf lastNode (r .last) lastBlock ≡ cond front (x .far) (x .near)
   pub joined : take (r .count) others ≡ x .others

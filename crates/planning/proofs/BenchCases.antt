@@ -16,7 +16,8 @@ use Rattle.queries.specs.Queries.{remove, layerAfter, newFrontLayer}
 use Rattle.queries.specs.declared.Query.the-variants.{Entries}
 use Rattle.accessors.specs.declared.Got.the-variants.{Refused as NotGot}
 use Rattle.accessors.specs.declared.Operation.the-variants.{Node as Named, None}
-use Rattle.accessors.specs.Accessors.{get, lastParallelBlock, commutingOperations, firstInvolvingQubit, lastInvolvingQubit, nodeOfKey, firstInvolvingClassical, lastInvolvingClassical}
+use Rattle.accessors.specs.Accessors.{get, lastParallelBlock, commutingOperations, firstInvolvingQubit, lastInvolvingQubit, nodeOfKey}
+use Rattle.accessors.specs.Accessors.{firstInvolvingClassical, lastInvolvingClassical}
 use Rattle.registers.specs.Registers.{put, define, setKeys, registersAfter}
 use Rattle.links.specs.Links.{qubitsFrom, linkQubits, linkSet, mapped, linkAll}
 use Rattle.insertion.specs.Insertion.{grown}

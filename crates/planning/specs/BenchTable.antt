@@ -95,7 +95,8 @@ pub record BenchTable : Type 0 where
   -- "4. B All, B{5}: edge 0-1; first[5] = 0, last[5] = 1."
   pub case-4 : (edgesOf case4 ≡ edge 0 1 ∷ []) × (atQubit (case4 .first) 5 ≡ 0) × (atQubit (case4 .last) 5 ≡ 1)
   -- "5. B{0} B All B All F{3} B{3}: edges 0-1, 1-2, 3-1, 1-4; blocks {0,3} {1} {2,4}. Two all-qubit operations and both ends: outside demand 3."
-  pub case-5 : (edgesOf case5 ≡ edge 0 1 ∷ edge 1 2 ∷ edge 3 1 ∷ edge 1 4 ∷ []) × (blocks case5 ≡ (0 ∷ 3 ∷ []) ∷ (1 ∷ []) ∷ (2 ∷ 4 ∷ []) ∷ []) × (Condition list5 → ⊥)
+  pub case-5 : (edgesOf case5 ≡ edge 0 1 ∷ edge 1 2 ∷ edge 3 1 ∷ edge 1 4 ∷ [])
+      × (blocks case5 ≡ (0 ∷ 3 ∷ []) ∷ (1 ∷ []) ∷ (2 ∷ 4 ∷ []) ∷ []) × (Condition list5 → ⊥)
   -- "6. B{} B All: no edge; first block {0}, node 1 in no block."
   pub case-6 : (edgesOf case6 ≡ []) × (members (case6 .first .block) ≡ 0 ∷ []) × (blockNumbers case6 ≡ 0 ∷ absent ∷ [])
   -- "7. F{0} F{0}: places -1, -2; edge 1-0; circuit 1, 0."

@@ -12,7 +12,8 @@ use Rattle.graph.specs.declared.CircuitDag.{CircuitDag}
 use Rattle.graph.specs.Dag.{size}
 use Rattle.graph.specs.Soundness.{sound}
 use Rattle.queries.specs.Reach.{blocking, BlockingList, predecessorsOf, successorsOf}
-use Rattle.queries.specs.Queries.{Lent, refuses, answers, onNode, executionBlocked, blockingPredecessors, successors, remove, freed, layerAfter, newFrontLayer}
+use Rattle.queries.specs.Queries.{Lent, refuses, answers, onNode, executionBlocked, blockingPredecessors, successors, remove, freed, layerAfter}
+use Rattle.queries.specs.Queries.{newFrontLayer}
 use Rattle.queries.specs.Marks.{noNode, everyNode, kept, without, layerBy, Listed, Neighbours, Closed, Waiting, FirstAt}
 use Rattle.graph.proofs.SoundnessLaws.{Sound}
 use Rattle.queries.proofs.BufferLaws.{remove-first, first-member, first-absent, length-some}

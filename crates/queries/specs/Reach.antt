@@ -17,7 +17,8 @@ pub data Reached (g : CircuitDag) : ℕ → ℕ → Type 0 where
 -- the same as a test: b is reached from a by at most k edges
 unfoldable pub reachedBy : ℕ → List Edge → ℕ → ℕ → Bool
 reachedBy zero es a b = false
-reachedBy (suc k) es a b = anyOf (λ (e : Edge). elim (eqb (e .from) a) [ true ↦ (elim (eqb (e .to) b) [ true ↦ true | false ↦ reachedBy k es (e .to) b ]) | false ↦ false ]) es
+reachedBy (suc k) es a b = anyOf (λ (e : Edge).
+    elim (eqb (e .from) a) [ true ↦ (elim (eqb (e .to) b) [ true ↦ true | false ↦ reachedBy k es (e .to) b ]) | false ↦ false ]) es
 
 -- edges run from smaller to larger places, so that no path has more edges than there are nodes
 abbrev pub reached : CircuitDag → ℕ → ℕ → Bool

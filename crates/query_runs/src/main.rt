@@ -1,6 +1,7 @@
-// Queries, accessors, steps, walks, chains and conversions on several circuits, each with buffers that are too short, one too short and long, on nodes that are there
-// and absent, and on a graph that is not sound. On standard input each circuit file stands behind its length in two bytes, little-endian.
-// Beside each answer stands the start of the lent buffer, which held 9999. tools/graph_answers.py computes the same from document 01.
+// Queries, accessors, steps, walks, chains and conversions on several circuits, each with buffers that are too short, one
+// too short and long, on nodes that are there and absent, and on a graph that is not sound. On standard input each
+// circuit file stands behind its length in two bytes, little-endian. Beside each answer stands the start of the lent
+// buffer, which held 9999. tools/graph_answers.py computes the same from document 01.
 use accessors::Got;
 use accessors::Operation;
 use file::Outcome;

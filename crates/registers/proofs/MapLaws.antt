@@ -26,7 +26,8 @@ use Rattle.links.specs.declared.LinkedRecords.{LinkedRecords}
 use Rattle.links.specs.Linking.{noLinks, linkRecords}
 use Rattle.links.proofs.LinkingLaws.{links-between}
 use Rattle.registers.specs.declared.Registered.{Registered}
-use Rattle.registers.specs.Registers.{Maps, withEntries, registersAfter, mapsAfter, mapsPass, registersOf, stored, mapsStopped, mapsKept, registersFrom, enterRecords, registerRecords, registerRecord}
+use Rattle.registers.specs.Registers.{Maps, withEntries, registersAfter, mapsAfter, mapsPass, registersOf, stored, mapsStopped, mapsKept}
+use Rattle.registers.specs.Registers.{registersFrom, enterRecords, registerRecords, registerRecord}
 use Rattle.registers.specs.RegisterMaps.{registers, Fits, EndsBecome, pass}
 use Rattle.registers.proofs.RegisterLaws.{ends-nothing, ends-fit, fits-none}
 

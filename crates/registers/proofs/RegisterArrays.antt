@@ -18,7 +18,8 @@ use Rattle.file.proofs.BoolLaws.{clash-bool, not-true, not-false}
 use Rattle.graph.proofs.ListLaws.{length-countFrom, upTo-at}
 use Rattle.registers.specs.Registers.{hasKey, put, withEntries}
 use Rattle.registers.specs.RegisterMaps.{Grown, registers, keyed, StandsAt, Sized, Fits, Becomes, BothBecome, joined, pass}
-use Rattle.registers.proofs.RegisterLists.{any-false, same-name, same-index, same-by, put-found, put-absent, length-put-has, length-put-new, put-grows, distinct-put}
+use Rattle.registers.proofs.RegisterLists.{any-false, same-name, same-index, same-by, put-found, put-absent, length-put-has, length-put-new}
+use Rattle.registers.proofs.RegisterLists.{put-grows, distinct-put}
 
 -- ---- lists of numbers
 

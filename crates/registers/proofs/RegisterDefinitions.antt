@@ -16,8 +16,11 @@ use Rattle.file.proofs.BoolLaws.{clash-bool, not-true}
 use Rattle.graph.proofs.ListLaws.{at-any}
 use Rattle.registers.specs.Registers.{hasKey, put, withEntries}
 use Rattle.registers.specs.RegisterMaps.{definition, putAll, Grown, Marked, Standing, registers, Fits, Becomes}
-use Rattle.registers.proofs.RegisterLists.{any-none, any-append, same-name, same-index, put-found, put-put, put-commutes, has-put-same, has-put-other, other-index, define-first, definition-step, definition-none, putAll-grows, definition-long}
-use Rattle.registers.proofs.RegisterArrays.{becomes, becomes-over, entries-put, get-entries, grown-own, grown-put, key-there, length-entries, put-new, put-over, put-there, with-with}
+use Rattle.registers.proofs.RegisterLists.{any-none, any-append, same-name, same-index, put-found, put-put, put-commutes, has-put-same}
+use Rattle.registers.proofs.RegisterLists.{has-put-other, other-index, define-first, definition-step, definition-none, putAll-grows}
+use Rattle.registers.proofs.RegisterLists.{definition-long}
+use Rattle.registers.proofs.RegisterArrays.{becomes, becomes-over, entries-put, get-entries, grown-own, grown-put, key-there, length-entries}
+use Rattle.registers.proofs.RegisterArrays.{put-new, put-over, put-there, with-with}
 
 -- ---- a definition
 

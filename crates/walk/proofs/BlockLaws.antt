@@ -22,7 +22,8 @@ use Rattle.walk.proofs.SoundOrder.{Ordered, sound-ordered}
 use Rattle.walk.proofs.Bounds.{any, any-none}
 use Rattle.walk.proofs.Heights.{Upward, stepsFrom, Walk, none, next, after, block, height, height-low, block-height, Stop, stop, no-empty}
 use Rattle.walk.proofs.HeightSteps.{block-pred}
-use Rattle.walk.proofs.BlockSteps.{edge-at, Within, sound-within, empty-not, not-empty, block-at, empty-at, count-at, number-in, number-out, stop-here, go-on}
+use Rattle.walk.proofs.BlockSteps.{edge-at, Within, sound-within, empty-not, not-empty, block-at, empty-at, count-at, number-in, number-out}
+use Rattle.walk.proofs.BlockSteps.{stop-here, go-on}
 
 -- ---- places from below
 

@@ -18,14 +18,16 @@ use Rattle.graph.specs.Dag.{Edge, edge, size, edgeAt, edgesOf, sameEdge, hasEdg
 use Rattle.graph.specs.Soundness.{sound}
 use Rattle.queries.specs.Reach.{reachedBy, reached, blocking}
 use Rattle.file.proofs.BoolLaws.{bool-cases, clash-bool, not-true, not-false, bool-ext, and-l, and-r, and-intro, or-cases, or-inl, or-inr, eqb-same}
-use Rattle.graph.proofs.ListLaws.{any-here, any-later, any-at, at-any, any-upTo, upTo-any, any-members, members-any, member-marked, any-numbers, member-upTo, member-keep}
+use Rattle.graph.proofs.ListLaws.{any-here, any-later, any-at, at-any, any-upTo, upTo-any, any-members, members-any, member-marked, any-numbers}
+use Rattle.graph.proofs.ListLaws.{member-upTo, member-keep}
 use Rattle.insertion.proofs.SafeEnds.{all-same}
 use Rattle.walk.specs.declared.ParallelBlocks.{ParallelBlocks}
 use Rattle.walk.specs.Blocks.{marks, start, unstarted, joined, followers, nextBlock, nextState, blocksFrom, numberFrom}
 use Rattle.walk.specs.Guarantee.{stateAfter, blockOfStep}
 use Rattle.walk.proofs.SoundOrder.{sound-ordered}
 use Rattle.walk.proofs.Bounds.{any, any-intro, any-elim, any-and, and-any, any-ext}
-use Rattle.walk.proofs.Heights.{reachIn, reach, Walk, none, join, empty, follow, next, after, block, blocks, stepsFrom, stepsFrom-stop, stepsFrom-go, no-empty, empty-no}
+use Rattle.walk.proofs.Heights.{reachIn, reach, Walk, none, join, empty, follow, next, after, block, blocks, stepsFrom, stepsFrom-stop}
+use Rattle.walk.proofs.Heights.{stepsFrom-go, no-empty, empty-no}
 
 -- ---- edges
 

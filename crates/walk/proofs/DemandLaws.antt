@@ -27,7 +27,8 @@ use Rattle.insertion.specs.Insertion.{grown}
 use Rattle.insertion.specs.Limits.{refused, edgesPass, registersPass, insertAs}
 use Rattle.walk.specs.declared.BlockCount.the-variants.{Blocks, Refused as NotWalked}
 use Rattle.walk.specs.Blocks.{Walked, blocks, numberFrom, blockNumbers, wholeWalk}
-use Rattle.walk.specs.Guarantee.{Accepted, accepted, takesQubits, operations, Condition, Each, Orders, different, stateAfter, blockOfStep, entry, filled, Guarantee, Demand3}
+use Rattle.walk.specs.Guarantee.{Accepted, accepted, takesQubits, operations, Condition, Each, Orders, different, stateAfter, blockOfStep}
+use Rattle.walk.specs.Guarantee.{entry, filled, Guarantee, Demand3}
 use Rattle.walk.proofs.Bounds.{any, any-elim, any-ext, greatest, greatest-le, count}
 use Rattle.walk.proofs.Heights.{Guarantee as Guaranteed, Keeps, block, steps, number, different as differentIn}
 use Rattle.walk.proofs.Nets.{Net, isOp, clashes, Base}

@@ -9,7 +9,8 @@ use native.Mathlib.Decide.{decLt, ℕ-discrete}
 use lib.Dec.{eqb}
 use borrow.Author.Tests.{eqb-true, eq-eqb, ne-eqb, not-true as not-flip}
 use Rattle.file.proofs.BoolLaws.{bool-cases, clash-bool, not-true, not-false, and-l, and-r, and-intro, or-cases, or-inl, or-inr, flip-not, eqb-same}
-use Rattle.walk.proofs.Bounds.{split-lt, any, any-intro, any-elim, any-and, and-any, any-none, none-any, greatest, greatest-le, greatest-at, greatest-ext, greatest-bound, count, count-mono, count-hit, count-all}
+use Rattle.walk.proofs.Bounds.{split-lt, any, any-intro, any-elim, any-and, and-any, any-none, none-any, greatest, greatest-le, greatest-at}
+use Rattle.walk.proofs.Bounds.{greatest-ext, greatest-bound, count, count-mono, count-hit, count-all}
 
 -- ---- definitions
 

@@ -24,7 +24,8 @@ use Rattle.walk.specs.Steps.{nextCall, entryOf, Iterated, NextIterated}
 use Rattle.walk.proofs.Bounds.{any-intro}
 use Rattle.walk.proofs.Heights.{Walk, empty, block, done, stays-busy}
 use Rattle.walk.proofs.BlockSteps.{empty-not, not-empty, unstarted-is, next-low, next-marked, state-sized, state-sets, block-at}
-use Rattle.walk.proofs.BlockLaws.{empty-list, W, edges, firsts, rank, upward, first-start, block-number, one-block, blocks-few, before-last, past-last, number-is, number-none}
+use Rattle.walk.proofs.BlockLaws.{empty-list, W, edges, firsts, rank, upward, first-start, block-number, one-block, blocks-few, before-last}
+use Rattle.walk.proofs.BlockLaws.{past-last, number-is, number-none}
 use Rattle.walk.proofs.NumberLaws.{Numbered, inBlock, inNone, number-cases}
 use Rattle.walk.proofs.DemandLaws.{walk-done, walk-entry}
 

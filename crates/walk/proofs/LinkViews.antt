@@ -25,7 +25,8 @@ use Rattle.links.proofs.LinkLaws.{addPresent, linkOne, ascend-distinct, set-ent
 use Rattle.insertion.proofs.SafeEnds.{all-same}
 use Rattle.walk.proofs.Bounds.{any, any-intro, any-elim, any-and, and-any, any-ext, any-none, none-any}
 use Rattle.walk.proofs.BlockSteps.{any-list, not-empty, empty-not}
-use Rattle.walk.proofs.Nets.{Net, Take, nothing, every, these, is, orElse as else, present as isSome, or, source as sourceIn, backThese, backEvery, backNothing, back, noQubits}
+use Rattle.walk.proofs.Nets.{Net, Take, nothing, every, these, is, orElse as else, present as isSome, or, source as sourceIn, backThese}
+use Rattle.walk.proofs.Nets.{backEvery, backNothing, back, noQubits}
 
 -- ---- an entry that may be absent
 

@@ -12,7 +12,8 @@ use Rattle.graph.specs.Soundness.{sound}
 use Rattle.file.proofs.BoolLaws.{bool-cases, clash-bool, not-true, not-false, and-r, and-intro}
 use Rattle.walk.specs.Blocks.{blocks, numberFrom}
 use Rattle.walk.proofs.Bounds.{any, any-elim, any-none, and-any, any-intro, split-lt, greatest, greatest-le, greatest-at}
-use Rattle.walk.proofs.Heights.{Reach, one, more, none, join, follow, empty-no, join-cases, join-inl, join-inr, block, done, cur-zero, cur-suc, exe-zero, exe-suc, free-intro}
+use Rattle.walk.proofs.Heights.{Reach, one, more, none, join, follow, empty-no, join-cases, join-inl, join-inr, block, done, cur-zero, cur-suc}
+use Rattle.walk.proofs.Heights.{exe-zero, exe-suc, free-intro}
 use Rattle.walk.proofs.HeightSteps.{last-edge, block-intro, block-pred}
 use Rattle.walk.proofs.BlockSteps.{block-at}
 use Rattle.walk.proofs.BlockLaws.{W, edges, firsts, rank, upward, first-start, no-block, last-step, number-is, number-none}

@@ -24,7 +24,8 @@ use Rattle.walk.specs.Numbering.{at, following, Joined, Above, Rises, Se
 use Rattle.walk.proofs.Bounds.{any, any-elim, any-none, any-and, greatest-le, greatest-at}
 use Rattle.walk.proofs.BlockSteps.{edge-at, at-edge, not-empty, empty-not, block-at}
 use Rattle.walk.proofs.BlockLaws.{W, edges, firsts, rank, upward, first-start, block-number, last-step, before-last, past-last, number-is}
-use Rattle.walk.proofs.NumberLaws.{numberOf, Numbered, inBlock, inNone, number-cases, number-first, greatestBefore, number-next, number-alone, number-behind}
+use Rattle.walk.proofs.NumberLaws.{numberOf, Numbered, inBlock, inNone, number-cases, number-first, greatestBefore, number-next, number-alone}
+use Rattle.walk.proofs.NumberLaws.{number-behind}
 
 module _ (g : CircuitDag) (s : sound g ≡ true) where
   abbrev n : ℕ

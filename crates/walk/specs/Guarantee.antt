@@ -112,7 +112,8 @@ pub record Guarantee (l : List (List ℕ)) (buffer : List ℕ) : Type 0 where
   pub calls : (before rest : List (List ℕ)) (s : List ℕ) → l ≡ before ++ (s ∷ rest) → insertOf (final before) s ≡ insertAs nearAll 0 (final before) s
   -- "Node numbers run from 0 in order of insertion." A call that accepts its record answers the number by which `accepted`, and so the
   -- walk's entries below, go: how many records were accepted before it.
-  pub numbers : (before rest : List (List ℕ)) (s : List ℕ) (v : NodeIndex) → l ≡ before ++ (s ∷ rest) → insertOf (final before) s .answer ≡ Node v → v .0 ≡ length (accepted before)
+  pub numbers : (before rest : List (List ℕ)) (s : List ℕ) (v : NodeIndex) → l ≡ before ++ (s ∷ rest)
+      → insertOf (final before) s .answer ≡ Node v → v .0 ≡ length (accepted before)
   -- The graph has a node for each accepted record and no other, so the entries of the walk are about just these.
   pub nodes : size (final l) ≡ length (accepted l)
   -- "The walk counts exactly the blocks it filled". The whole walk is not refused, and the count that it returns is how many different

@@ -6,7 +6,8 @@ use native.Mathlib.Omega.{arith}
 use borrow.Author.Tests.{not-false}
 use borrow.Author.Needs.{needs}
 use Rattle.file.proofs.BoolLaws.{clash-bool}
-use Rattle.graph.proofs.CheckLaws.{EdgesStamped, fromAt, toAt, edgeTest, from-low, to-low, newer-low, older-low, stamps-begin, stamps-more, edges-done, targets-done}
+use Rattle.graph.proofs.CheckLaws.{EdgesStamped, fromAt, toAt, edgeTest, from-low, to-low, newer-low, older-low, stamps-begin, stamps-more}
+use Rattle.graph.proofs.CheckLaws.{edges-done, targets-done}
 use Rattle.graph.proofs.soundness.edges_fit_by_stamps.Statement.{statement}
 use Rattle.graph.proofs.soundness.edges_fit_by_stamps.Tie as tie
 

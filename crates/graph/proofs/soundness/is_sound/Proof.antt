@@ -9,7 +9,8 @@ use Rattle.graph.specs.Soundness.{operationAt, sound}
 use Rattle.graph.proofs.SizeLaws.{DagSized, dag-sized}
 use Rattle.graph.proofs.SoundnessLaws.{Sound}
 use Rattle.graph.proofs.CheckLaws.{targetsOf}
-use Rattle.graph.proofs.AnswerLaws.{countsOf, CountsFit, counts-told, placesOf, edgesOk, endsClause, listsClause, refused, last-answer, counts-of, places-of, edges-of, ends-of, lists-of, accepted}
+use Rattle.graph.proofs.AnswerLaws.{countsOf, CountsFit, counts-told, placesOf, edgesOk, endsClause, listsClause, refused, last-answer}
+use Rattle.graph.proofs.AnswerLaws.{counts-of, places-of, edges-of, ends-of, lists-of, accepted}
 use Rattle.graph.proofs.soundness.is_sound.Statement.{statement}
 use Rattle.graph.proofs.soundness.is_sound.Tie as tie
 
