@@ -19,10 +19,10 @@ import sys
 
 KINDS = ["", "Bit", "Float", "Usize", "Complex"]
 RECORD = re.compile(r"""\s*(?:
-    (?:(?P<dend>[BF])\s+)?(?P<kind>Bit|Float|Usize|Complex)\s+name\s+(?P<dname>\d+)\s+length\s+(?P<length>\d+)
-  | (?P<end>[BF])\s*(?P<qubits>All|None|\{\s*(?:\d+\s*(?:,\s*\d+\s*)*)?\})
-    (?:/(?:(?P<form>AllQubits|All)\s+name\s+(?P<name>\d+)|Set(?P<keys>(?:\s*\(\s*\d+\s*,\s*\d+\s*\))*)))?
-  )(?P<more>(?:\s+(?:label\s+\d+|kind\s+\d+))*)\s*;?""", re.X)
+    (?:(?P<dend>[BF])\s+)?(?P<kind>Bit|Float|Usize|Complex)\s+name\s+(?P<dname>[0-9]+)\s+length\s+(?P<length>[0-9]+)
+  | (?P<end>[BF])\s*(?P<qubits>All|None|\{\s*(?:[0-9]+\s*(?:,\s*[0-9]+\s*)*)?\})
+    (?:/(?:(?P<form>AllQubits|All)\s+name\s+(?P<name>[0-9]+)|Set(?P<keys>(?:\s*\(\s*[0-9]+\s*,\s*[0-9]+\s*\))*)))?
+  )(?P<more>(?:\s+(?:label\s+[0-9]+|kind\s+[0-9]+))*)\s*;?""", re.X)
 
 
 class CircuitError(Exception):
@@ -30,15 +30,15 @@ class CircuitError(Exception):
 
 
 def number(text, most, what):
-    n = int(text or 0)
-    if n > most:
-        raise CircuitError(f"{what} {n} is over {most}")
-    return n
+    digits = (text or "0").lstrip("0") or "0"
+    if len(digits) > 6 or int(digits) > most:
+        raise CircuitError(f"{what} {digits[:20]} is over {most}")
+    return int(digits)
 
 
 def words_behind(m):
     """The label and whether `kind 5` stands behind a record, each at most once."""
-    found = re.findall(r"(label|kind)\s+(\d+)", m["more"])
+    found = re.findall(r"(label|kind)\s+([0-9]+)", m["more"])
     for word in ("label", "kind"):
         if sum(w == word for w, n in found) > 1:
             raise CircuitError(f"'{m[0].strip()}' says {word} twice")
@@ -50,7 +50,7 @@ def words_behind(m):
 
 def set_tail(m):
     """The count and the entries of a register Set."""
-    keys = [(number(a, 255, "name"), number(b, 65535, "index")) for a, b in re.findall(r"\(\s*(\d+)\s*,\s*(\d+)", m["keys"])]
+    keys = [(number(a, 255, "name"), number(b, 65535, "index")) for a, b in re.findall(r"\(\s*([0-9]+)\s*,\s*([0-9]+)", m["keys"])]
     if len(keys) > 16:
         raise CircuitError(f"'{m[0].strip()}' has {len(keys)} register entries; 16 are the most")
     for a, b in zip(keys, keys[1:]):
@@ -67,7 +67,7 @@ def record(m):
         tail = struct.pack("<BH", number(m["dname"], 255, "name"), number(m["length"], 65535, "length"))
         return bytes([end, KINDS.index(m["kind"]), 0]) + bytes(8) + b"\x04" + label + tail
     mask = 0
-    for q in re.findall(r"\d+", m["qubits"]):
+    for q in re.findall(r"[0-9]+", m["qubits"]):
         mask |= 1 << number(q, 63, "qubit")
     form = {"N": 0, "A": 1}.get(m["qubits"][0], 2)
     register, tail = 0, b""
@@ -80,15 +80,31 @@ def record(m):
 
 
 def circuit_file(records):
-    """A circuit file of these records' bytes, without slack."""
+    """A circuit file of these records' bytes, without slack. Any number of them up to 65535: what is over 512 is for tests of the refusal."""
     at = 2 + 4 * len(records)
     pairs = b""
     for r in records:
         if at > 65535:
             raise CircuitError("an offset is over 65535")
+        if len(r) > 65535:
+            raise CircuitError("a record has over 65535 bytes")
         pairs += struct.pack("<HH", at, len(r))
         at += len(r)
     return struct.pack("<H", len(records)) + pairs + b"".join(records)
+
+
+def no_record(text):
+    """What is wrong with a text that starts with no record."""
+    qubits = re.match(r"[BF]\s*\{[^}]*\}?", text)
+    if qubits:
+        return f"'{qubits[0][:40]}': qubits are numbers with a comma between two, in braces, as in B{{0,1}}"
+    return f"no record at '{text[:20]}': one starts with B, F, Bit, Float, Usize or Complex"
+
+
+def read_input():
+    if sys.stdin is None:
+        raise CircuitError("standard input is closed")
+    return sys.stdin.buffer.read()
 
 
 def parse(text):
@@ -98,7 +114,7 @@ def parse(text):
     while text[at:].strip():
         m = RECORD.match(text, at)
         if not m:
-            raise CircuitError(f"no record at '{text[at:].strip()[:20]}'")
+            raise CircuitError(no_record(text[at:].strip()))
         records.append(record(m))
         at = m.end()
     if len(records) > 512:
@@ -157,17 +173,17 @@ def show(data):
 
 def main(words):
     if words[:1] == ["write"] and len(words) == 2:
-        text = sys.stdin.read() if words[1] == "-" else words[1]
+        text = read_input().decode() if words[1] == "-" else words[1]
         sys.stdout.buffer.write(circuit_file(parse(text)))
     elif words[:1] == ["show"] and len(words) <= 2:
-        data = open(words[1], "rb").read() if len(words) == 2 else sys.stdin.buffer.read()
+        data = open(words[1], "rb").read() if len(words) == 2 else read_input()
         lines, torn = show(data)
         for line in lines:
             print(line)
         if torn:
             raise CircuitError(torn)
     else:
-        sys.exit(__doc__)
+        raise CircuitError("these words are no call of it\n" + __doc__)
 
 
 if __name__ == "__main__":

@@ -227,11 +227,11 @@ def asked(title, size, buffer, tests, answer):
     """A line: the first cause whose test holds, or the answer's length, and the buffer of 9999s afterwards."""
     for cause, holds in tests:
         if holds:
-            return print(f"{title} refused {cause} |" + " 9999" * min(size, 6))
+            return print(f"{title} refused {cause} |" + " 9999" * min(size, 9))
     found = answer()
     if size < len(found):
-        return print(f"{title} refused 10 |" + " 9999" * min(size, 6))
-    shown = (found + [9999] * size)[:min(size, 6)]
+        return print(f"{title} refused 10 |" + " 9999" * min(size, 9))
+    shown = (found + [9999] * size)[:min(size, 9)]
     print(f"{title} {len(found) if buffer is None else buffer} |" + "".join(f" {x}" for x in shown))
 
 
@@ -275,7 +275,7 @@ def asked_to_step(g, sound, state, size):
     after = state if refused else after
     said = f"refused {refused}" if refused else "none" if block is None else str(len(block))
     entries = [] if refused or block is None else sorted(block)
-    print(f"next buffer {size}: {said} {len(after[0])} {len(after[1])} |" + "".join(f" {x}" for x in (entries + [9999] * size)[:min(size, 6)]))
+    print(f"next buffer {size}: {said} {len(after[0])} {len(after[1])} |" + "".join(f" {x}" for x in (entries + [9999] * size)[:min(size, 9)]))
     return after
 
 

@@ -318,6 +318,9 @@ fn worst(turns: usize) {
             orders.push(("the same, with edges over 2 to 5 nodes behind them", with_shortcuts(&worst_order(&c.ours))));
         } else if name.starts_with("33") {
             orders.push(("every other layer first", worst_layers(&c.ours)));
+            orders.push(("newest edge first", newest_first(&c.ours)));
+        } else {
+            orders.push(("newest edge first", newest_first(&c.ours)));
         }
         for (order, dag) in orders {
             assert!(dag.is_sound());
@@ -356,6 +359,17 @@ fn with_shortcuts(dag: &CircuitDag) -> CircuitDag {
         dense.edges.count = m + 1;
     }
     dense
+}
+
+/// The edges from the last to the first: a node's neighbours come the newest first, and the check of soundness needs its bitmap.
+fn newest_first(dag: &CircuitDag) -> CircuitDag {
+    let mut other = *dag;
+    let m = dag.edges.count;
+    for k in 0..m {
+        other.edges.from[k] = dag.edges.from[m - 1 - k];
+        other.edges.to[k] = dag.edges.to[m - 1 - k];
+    }
+    other
 }
 
 /// The layers' edges: those of odd layers first, from the last layer to the first, then those of even layers.

@@ -1,4 +1,5 @@
-// Is a handed-in graph sound: one pass over each part, in the time of the parts' lengths.
+// Is a handed-in graph sound: one pass over each part, but where the order of its edges or register keys does not show that they are distinct
+// (docs/SPEED.md, "Handed-in graphs in the worst order").
 ghost use mathlib.Core.Path.{_≡_};
 ghost use mathlib.Core.Bool.{true, false, cond, not, _&&_, _||_};
 ghost use mathlib.Core.List.{_∷_, map};

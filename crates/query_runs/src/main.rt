@@ -40,11 +40,11 @@ fn print_refusal(r: Refusal) {
     }
 }
 
-// The first six entries of a buffer, and the end of the line.
+// The first nine entries of a buffer, as many as the longest list has, and the end of the line.
 fn print_buffer(buffer: &[u16]) {
     print(b" |");
     let mut i: usize = 0;
-    while i < 6 {
+    while i < 9 {
         if buffer.len() <= i {
             break;
         }

@@ -10,10 +10,10 @@ use Rattle.query_runs.proofs.print.Reads as print-reads
 use Rattle.query_runs.proofs.print_number.Reads as print-number-reads
 
 abbrev Inv-loop : tie.InvT-loop
-Inv-loop buffer i₀ t4 i = i ≤ 6
+Inv-loop buffer i₀ t4 i = i ≤ 9
 
 abbrev μ-loop : tie.MeasureT-loop
-μ-loop buffer i₀ t4 i = 6 - i
+μ-loop buffer i₀ t4 i = 9 - i
 
 -- src/main.rt:40:11
 slice-aggregate-print : tie.Need-slice-aggregate-print Inv-loop μ-loop
