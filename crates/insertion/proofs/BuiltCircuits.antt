@@ -10,13 +10,16 @@ use Rattle.file.specs.declared.FileCheck.the-variants.{Sound, Refused as BadFil
 use Rattle.graph.specs.declared.CircuitDag.{CircuitDag}
 use Rattle.graph.specs.Dag.{empty}
 use Rattle.queries.proofs.CircuitTheorems.{circuit-whole, circuit-in-order}
-use Rattle.links.specs.Links.{nearAll}
+use Rattle.links.specs.Links.{FarRule, nearAll, ruleOf}
+use Rattle.links.specs.declared.LoadingRule.{LoadingRule}
+use Rattle.links.specs.declared.LoadingRule.the-variants.{NearAll}
+use Rattle.links.proofs.LinkLaws.{NamesAll, names-all}
 use Rattle.insertion.specs.declared.Answer.{Answer}
 use Rattle.insertion.specs.declared.Answer.the-variants.{Node, Refused}
 use Rattle.insertion.specs.declared.Inserted.{Inserted}
 use Rattle.insertion.specs.declared.Loaded.{Loaded}
 use Rattle.insertion.specs.Limits.{insertAs}
-use Rattle.insertion.specs.Load.{notLoaded, insertRecords, loadChecked, load}
+use Rattle.insertion.specs.Load.{notLoaded, insertRecords, loadChecked, loadBy}
 use Rattle.insertion.specs.Conversion.{broken, insertionOrder, convert, convertChecked, fromCircuit}
 use Rattle.insertion.specs.Circuits.{WholeInOrder, CircuitsBuilt}
 use Rattle.insertion.proofs.BuiltLaws.{Safe, safe-sound, safe-empty, safe-as, safe-built}
@@ -26,32 +29,33 @@ whole-in-order g G = record { whole = circuit-whole g (G .nodes .known); in-orde
 
 module _ (s : List ℕ) where
   -- a list of records that is refused leaves the empty graph
-  safe-records : (l : List ℕ) (g : CircuitDag) → Safe false g → Safe false (insertRecords s g l .graph)
+  safe-records : (rule : FarRule) → NamesAll rule → (l : List ℕ) (g : CircuitDag) → Safe false g → Safe false (insertRecords rule s g l .graph)
   unfolding insertRecords
-  safe-records [] g G = G
-  safe-records (i ∷ l) g G = next (x .answer) (safe-records l (x .graph) (safe-as i g (recordAt s i) G))
+  safe-records rule names [] g G = G
+  safe-records rule names (i ∷ l) g G = next (x .answer) (safe-records rule names l (x .graph) (safe-as rule i g (recordAt s i) names G))
     where
       x : Inserted
-      x = insertAs nearAll i g (recordAt s i)
+      x = insertAs rule i g (recordAt s i)
 
-      next : (a : Answer) → Safe false (insertRecords s (x .graph) l .graph) → Safe false ((elim a as (λ y. Loaded) [ Node v ↦ insertRecords s (x .graph) l | Refused r ↦ notLoaded r ]) .graph)
+      next : (a : Answer) → Safe false (insertRecords rule s (x .graph) l .graph)
+          → Safe false ((elim a as (λ y. Loaded) [ Node v ↦ insertRecords rule s (x .graph) l | Refused r ↦ notLoaded r ]) .graph)
       next (Node v) S = S
       next (Refused r) S = safe-empty
 
-  safe-load : Safe false (load s .graph)
-  unfolding load
-  safe-load = checked (checkFile s)
+  safe-load : (rule : LoadingRule) → Safe false (loadBy rule s .graph)
+  unfolding loadBy
+  safe-load rule = checked (checkFile s)
     where
-      checked : (c : FileCheck) → Safe false (loadChecked c s .graph)
+      checked : (c : FileCheck) → Safe false (loadChecked (ruleOf rule) c s .graph)
       checked (BadFile r) = safe-empty
-      checked Sound = safe-records (upTo (countOf s)) empty safe-empty
+      checked Sound = safe-records (ruleOf rule) (names-all rule) (upTo (countOf s)) empty safe-empty
 
   safe-conversion : Safe false (fromCircuit s .graph)
   unfolding fromCircuit
   safe-conversion = checked (checkFile s)
     where
       listed : (l : List ℕ) → Safe false (convert s l .graph)
-      listed [] = safe-records (insertionOrder s) empty safe-empty
+      listed [] = safe-records nearAll (names-all NearAll) (insertionOrder s) empty safe-empty
       listed (i ∷ l) = safe-empty
 
       checked : (c : FileCheck) → Safe false (convertChecked c s .graph)
@@ -61,6 +65,6 @@ module _ (s : List ℕ) where
 pub circuits-built : CircuitsBuilt
 circuits-built = record {
   inserted = λ l. whole-in-order _ (safe-built l);
-  loaded = λ s. whole-in-order _ (safe-load s);
+  loaded = λ rule s. whole-in-order _ (safe-load s rule);
   converted = λ s. whole-in-order _ (safe-conversion s);
 }

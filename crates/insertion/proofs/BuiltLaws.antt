@@ -23,14 +23,15 @@ use Rattle.file.proofs.BoolLaws.{clash-bool, or-l, or-r}
 use Rattle.graph.proofs.SoundnessLaws.{NamesFit, RegistersFit, registers-told, told-sound}
 use Rattle.insertion.specs.declared.Answer.the-variants.{Node, Refused}
 use Rattle.insertion.specs.declared.Inserted.{Inserted}
-use Rattle.links.specs.Links.{Linked, nearAll, link, withEdges}
+use Rattle.links.specs.Links.{Linked, FarRule, ruleOf, link, withEdges}
 use Rattle.registers.specs.Registers.{withEntries}
 use Rattle.insertion.specs.Insertion.{facing, placeAfter, linked, registered, commutes, withCommuting, grown}
 use Rattle.registers.specs.Registers.{Maps}
-use Rattle.insertion.specs.Limits.{refused, edgesPass, registersPass, insertAs, insertOf}
-use Rattle.insertion.specs.Calls.{graphAfter, final}
+use Rattle.insertion.specs.Limits.{refused, edgesPass, registersPass, insertAs, insertBy}
+use Rattle.insertion.specs.Calls.{Call, graphAfter, built}
 use Rattle.insertion.specs.Built.{SoundBuilt}
-use Rattle.links.proofs.LinkLaws.{others-distinct}
+use Rattle.links.specs.declared.LoadingRule.{LoadingRule}
+use Rattle.links.proofs.LinkLaws.{NamesAll, names-all, others-distinct}
 use Rattle.registers.proofs.RegisterLaws.{fits-none}
 use Rattle.insertion.proofs.SafeEnds.{all-same, Side, Joins, named-old, near-side, far-side, joins-by}
 use Rattle.insertion.proofs.SafeEdges.{between, lies, link-rises, EdgesSafe, Meets, meets-below, near-meets, far-meets, edges-more}
@@ -198,19 +199,19 @@ extendedAt b h s x r = record {
 }
 
 -- the record s keeps its rule and nothing passes its limit
-record Accepted (h : CircuitDag) (s : List ℕ) : Type 0 where
+record Accepted (rule : FarRule) (h : CircuitDag) (s : List ℕ) : Type 0 where
   keeps : recordRule s ≡ true
   room : size h < 512
-  edges : h .edges .count + length (linked nearAll h s .others) ≤ 2048
+  edges : h .edges .count + length (linked rule h s .others) ≤ 2048
   near : length (registered h s .near) ≤ 256
   far : length (registered h s .far) ≤ 256
 
-module _ (b : Bool) (h : CircuitDag) (s : List ℕ) (H : Safe b h) (A : Accepted h s) where
+module _ (rule : FarRule) (names : NamesAll rule) (b : Bool) (h : CircuitDag) (s : List ℕ) (H : Safe b h) (A : Accepted rule h s) where
   abbrev n : ℕ
   n = size h
 
   abbrev x : Linked
-  x = linked nearAll h s
+  x = linked rule h s
 
   abbrev h′ : CircuitDag
   h′ = extendedAt b h s x (registered h s)
@@ -237,7 +238,7 @@ module _ (b : Bool) (h : CircuitDag) (s : List ℕ) (H : Safe b h) (A : Accepted
   comes = place-here b (h .nodes) (h .backs) (h .fronts) (kind s) (qubitForm s) (label s) (H .nodes) (A .room)
 
   joins : Joins n op new (h .last) (h .first) x
-  joins = joins-by n op (h .last) (h .first) (Meets b (h .edges)) (Meets (not b) (h .edges)) (H .near) (H .far) (A .room) (qubitsOf s) new (record-operates s (A .keeps))
+  joins = joins-by n op (h .last) (h .first) rule names (Meets b (h .edges)) (Meets (not b) (h .edges)) (H .near) (H .far) (A .room) (qubitsOf s) new (record-operates s (A .keeps))
 
   more-edges : EdgesSafe (n + 1) op′ (placeAt (h′ .nodes)) (h′ .edges)
   more-edges = edges-more b n op op′ (placeAt (h .nodes)) (placeAt (h′ .nodes)) (h .edges) (x .others) (H .edges)
@@ -246,7 +247,7 @@ module _ (b : Bool) (h : CircuitDag) (s : List ℕ) (H : Safe b h) (A : Accepted
       stays
       (λ u l. link-rises (h .backs) (h .fronts) b (placeAt (h′ .nodes)) n u comes (ap (lies b (h .backs) (h .fronts)) (stays u l) ∙ H .nodes .within u l))
       (joins .others)
-      (others-distinct (qubitsOf s) nearAll n (h .last) (h .first))
+      (others-distinct (qubitsOf s) rule n (h .last) (h .first))
       (A .edges)
 
   in-from : h .edges .count ≤ length (h .edges .from)
@@ -271,11 +272,11 @@ module _ (b : Bool) (h : CircuitDag) (s : List ℕ) (H : Safe b h) (A : Accepted
         far-registers = registers .1;
       }
 
-safe-grown : (g : CircuitDag) (s : List ℕ) → Safe false g → Accepted (facing (front s) g) s → Safe false (grown nearAll g s)
+safe-grown : (rule : FarRule) → NamesAll rule → (g : CircuitDag) (s : List ℕ) → Safe false g → Accepted rule (facing (front s) g) s → Safe false (grown rule g s)
 unfolding grown
-safe-grown g s G A =
+safe-grown rule names g s G A =
     let h = facing (front s) g in
-    turned-back (front s) (extendedAt (front s) h s (linked nearAll h s) (registered h s)) (safe-extended (front s) h s (turned (front s) g G) A)
+    turned-back (front s) (extendedAt (front s) h s (linked rule h s) (registered h s)) (safe-extended rule names (front s) h s (turned (front s) g G) A)
 
 -- ---- an insertion, and a list of them
 
@@ -288,10 +289,10 @@ insert-cases P false false true d w x y z v p q r t u = r
 insert-cases P false false false true w x y z v p q r t u = t
 insert-cases P false false false false w x y z v p q r t u = u refl refl refl refl
 
-not-passed : (b : Bool) (g : CircuitDag) (s : List ℕ) → not (recordRule s) ≡ false → leb 512 (size g) ≡ false
-    → ltb 2048 (g .edges .count + length (linked nearAll (facing b g) s .others)) ≡ false
-    → (ltb 256 (length (registered (facing b g) s .near)) || ltb 256 (length (registered (facing b g) s .far))) ≡ false → Accepted (facing b g) s
-not-passed b g s k r e m = record {
+not-passed : (rule : FarRule) (b : Bool) (g : CircuitDag) (s : List ℕ) → not (recordRule s) ≡ false → leb 512 (size g) ≡ false
+    → ltb 2048 (g .edges .count + length (linked rule (facing b g) s .others)) ≡ false
+    → (ltb 256 (length (registered (facing b g) s .near)) || ltb 256 (length (registered (facing b g) s .far))) ≡ false → Accepted rule (facing b g) s
+not-passed rule b g s k r e m = record {
   keeps = told-true (recordRule s) k;
   room = size-in b;
   edges = edges-in b (ltb-false _ _ e);
@@ -303,23 +304,23 @@ not-passed b g s k r e m = record {
     size-in false = leb-false 512 (size g) r
     size-in true = leb-false 512 (size g) r
 
-    edges-in : (b : Bool) → g .edges .count + length (linked nearAll (facing b g) s .others) ≤ 2048 → facing b g .edges .count + length (linked nearAll (facing b g) s .others) ≤ 2048
+    edges-in : (b : Bool) → g .edges .count + length (linked rule (facing b g) s .others) ≤ 2048 → facing b g .edges .count + length (linked rule (facing b g) s .others) ≤ 2048
     edges-in false h = h
     edges-in true h = h
 
-module _ (i : ℕ) (g : CircuitDag) (s : List ℕ) where
+module _ (rule : FarRule) (i : ℕ) (g : CircuitDag) (s : List ℕ) where
   as-cases : (P : Inserted → Type 0) → P (refused (BadRecord i) g) → P (refused TooManyNodes g) → P (refused (TooManyEdges i) g) → P (refused (TooManyRegisters i) g)
-      → (Accepted (facing (front s) g) s → P (record { answer = Node (node (size g)); graph = grown nearAll g s })) → P (insertAs nearAll i g s)
+      → (Accepted rule (facing (front s) g) s → P (record { answer = Node (node (size g)); graph = grown rule g s })) → P (insertAs rule i g s)
   unfolding insertAs
-  as-cases P p q r t u = insert-cases P (not (recordRule s)) (leb 512 (size g)) (edgesPass nearAll g s) (registersPass g s) _ _ _ _ _ p q r t
-      (λ k l e m. u (not-passed (front s) g s k l e m))
+  as-cases P p q r t u = insert-cases P (not (recordRule s)) (leb 512 (size g)) (edgesPass rule g s) (registersPass g s) _ _ _ _ _ p q r t
+      (λ k l e m. u (not-passed rule (front s) g s k l e m))
 
   -- a refusal leaves the graph as it was
-  pub safe-as : Safe false g → Safe false (insertAs nearAll i g s .graph)
-  safe-as G = as-cases (λ x. Safe false (x .graph)) G G G G (safe-grown g s G)
+  pub safe-as : NamesAll rule → Safe false g → Safe false (insertAs rule i g s .graph)
+  safe-as names G = as-cases (λ x. Safe false (x .graph)) G G G G (safe-grown rule names g s G)
 
   -- "4 to 7"
-  as-refused : insertAs nearAll i g s .answer ≡ Refused Unsound → ⊥
+  as-refused : insertAs rule i g s .answer ≡ Refused Unsound → ⊥
   as-refused = as-cases (λ x. x .answer ≡ Refused Unsound → ⊥)
       (λ e. let z : _≡_ {A = ℕ} 0 1 = cc in omega arith)
       (λ e. let z : _≡_ {A = ℕ} 0 1 = cc in omega arith)
@@ -327,24 +328,24 @@ module _ (i : ℕ) (g : CircuitDag) (s : List ℕ) where
       (λ e. let z : _≡_ {A = ℕ} 0 1 = cc in omega arith)
       (λ a e. let z : _≡_ {A = ℕ} 0 1 = cc in omega arith)
 
-insert-sound : (g : CircuitDag) (s : List ℕ) → sound g ≡ true → insertOf g s ≡ insertAs nearAll 0 g s
-unfolding insertOf
-insert-sound g s h = rw h refl
+insert-sound : (rule : LoadingRule) (g : CircuitDag) (s : List ℕ) → sound g ≡ true → insertBy rule g s ≡ insertAs (ruleOf rule) 0 g s
+unfolding insertBy
+insert-sound rule g s h = rw h refl
 
-pub safe-insert : (g : CircuitDag) (s : List ℕ) → Safe false g → Safe false (insertOf g s .graph)
-safe-insert g s G = rw (insert-sound g s (safe-sound g G)) (safe-as 0 g s G)
+pub safe-insert : (rule : LoadingRule) (g : CircuitDag) (s : List ℕ) → Safe false g → Safe false (insertBy rule g s .graph)
+safe-insert rule g s G = rw (insert-sound rule g s (safe-sound g G)) (safe-as (ruleOf rule) 0 g s (names-all rule) G)
 
-safe-after : (l : List (List ℕ)) (g : CircuitDag) → Safe false g → Safe false (graphAfter g l)
+safe-after : (l : List Call) (g : CircuitDag) → Safe false g → Safe false (graphAfter g l)
 unfolding graphAfter
 safe-after [] g G = G
-safe-after (s ∷ l) g G = safe-after l (insertOf g s .graph) (safe-insert g s G)
+safe-after (c ∷ l) g G = safe-after l (insertBy (c .rule) g (c .bytes) .graph) (safe-insert (c .rule) g (c .bytes) G)
 
 -- every graph that is built keeps it ..
-pub safe-built : (l : List (List ℕ)) → Safe false (final l)
+pub safe-built : (l : List Call) → Safe false (built l)
 safe-built l = safe-after l empty safe-empty
 
 -- .. and is sound
-pub sound-built : (l : List (List ℕ)) → SoundBuilt l
+pub sound-built : (l : List Call) → SoundBuilt l
 sound-built l =
-    let h = safe-sound (final l) (safe-built l) in
-    record { sound = h; never = λ s. insert-sound (final l) s h; never-refused = λ s. rw (insert-sound (final l) s h) (as-refused 0 (final l) s) }
+    let h = safe-sound (built l) (safe-built l) in
+    record { sound = h; never = λ rule s. insert-sound rule (built l) s h; never-refused = λ rule s. rw (insert-sound rule (built l) s h) (as-refused (ruleOf rule) 0 (built l) s) }

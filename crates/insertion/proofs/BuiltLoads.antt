@@ -27,11 +27,13 @@ use Rattle.insertion.specs.declared.Answer.the-variants.{Node, Refused}
 use Rattle.insertion.specs.declared.Inserted.{Inserted}
 use Rattle.file.specs.declared.Outcome.the-variants.{Done}
 use Rattle.insertion.specs.declared.Loaded.{Loaded}
-use Rattle.links.specs.Links.{nearAll}
+use Rattle.links.specs.Links.{FarRule, ruleOf}
+use Rattle.links.specs.declared.LoadingRule.{LoadingRule}
+use Rattle.links.specs.declared.LoadingRule.the-variants.{NearAll}
 use Rattle.insertion.specs.Insertion.{grown}
-use Rattle.insertion.specs.Limits.{accepts, insertAs, insertOf, refused, edgesPass, registersPass}
-use Rattle.insertion.specs.Load.{notLoaded, insertRecords, loadChecked, load}
-use Rattle.insertion.specs.Calls.{graphAfter, final}
+use Rattle.insertion.specs.Limits.{accepts, insertAs, insertBy, refused, edgesPass, registersPass}
+use Rattle.insertion.specs.Load.{notLoaded, insertRecords, loadChecked, loadBy}
+use Rattle.insertion.specs.Calls.{graphAfter, allBy, finalBy}
 use Rattle.insertion.specs.Conversion.{broken, insertionOrder, convert, convertChecked, fromCircuit}
 use Rattle.insertion.specs.Built.{atRecord, recordsIn, stepIn, Inserts, LoadInserts, ConversionInserts}
 use Rattle.insertion.proofs.BuiltLaws.{sound-built}
@@ -64,41 +66,41 @@ tested-as false false false true i v g h = refl
 tested-as false false false false i v g h = refl
 
 -- the number of the record is in the refusals only
-insert-as : (i : ℕ) (g : CircuitDag) (b : List ℕ) → insertAs nearAll i g b ≡ asRecord i (insertAs nearAll 0 g b)
+insert-as : (rule : FarRule) (i : ℕ) (g : CircuitDag) (b : List ℕ) → insertAs rule i g b ≡ asRecord i (insertAs rule 0 g b)
 unfolding insertAs
-insert-as i g b = tested-as (not (recordRule b)) (leb 512 (size g)) (edgesPass nearAll g b) (registersPass g b) i (node (size g)) g (grown nearAll g b)
+insert-as rule i g b = tested-as (not (recordRule b)) (leb 512 (size g)) (edgesPass rule g b) (registersPass g b) i (node (size g)) g (grown rule g b)
 
 -- ---- one insertion more
 
-after-last : (l : List (List ℕ)) (g : CircuitDag) (b : List ℕ) → graphAfter g (l ++ (b ∷ [])) ≡ insertOf (graphAfter g l) b .graph
+after-last : (rule : LoadingRule) (l : List (List ℕ)) (g : CircuitDag) (b : List ℕ) → graphAfter g (allBy rule (l ++ (b ∷ []))) ≡ insertBy rule (graphAfter g (allBy rule l)) b .graph
 unfolding graphAfter
-after-last [] g b = refl
-after-last (x ∷ l) g b = after-last l (insertOf g x .graph) b
+after-last rule [] g b = refl
+after-last rule (x ∷ l) g b = after-last rule l (insertBy rule g x .graph) b
 
 -- ---- the load goes on from one record to the next
 
 -- what insertRecords makes of an insertion, with the records of l left
-abbrev goesOn : List ℕ → List ℕ → Inserted → Loaded
-goesOn s l x = elim (x .answer) [ Node v ↦ insertRecords s (x .graph) l | Refused r ↦ notLoaded r ]
+abbrev goesOn : FarRule → List ℕ → List ℕ → Inserted → Loaded
+goesOn rule s l x = elim (x .answer) [ Node v ↦ insertRecords rule s (x .graph) l | Refused r ↦ notLoaded r ]
 
-next-record : (s : List ℕ) (g : CircuitDag) (i : ℕ) (l : List ℕ) → insertRecords s g (i ∷ l) ≡ goesOn s l (insertAs nearAll i g (recordAt s i))
+next-record : (rule : FarRule) (s : List ℕ) (g : CircuitDag) (i : ℕ) (l : List ℕ) → insertRecords rule s g (i ∷ l) ≡ goesOn rule s l (insertAs rule i g (recordAt s i))
 unfolding insertRecords
-next-record s g i l = refl
+next-record rule s g i l = refl
 
 -- the number makes no difference to an accepted record ..
-goes-on : (s l : List ℕ) (i : ℕ) (a : Answer) (g : CircuitDag) → accepts a ≡ true → goesOn s l (record { answer = numbered i a; graph = g }) ≡ insertRecords s g l
-goes-on s l i (Node v) g h = refl
-goes-on s l i (Refused r) g h = let z : _≡_ {A = ℕ} 0 1 = cc in absurd (omega arith)
+goes-on : (rule : FarRule) (s l : List ℕ) (i : ℕ) (a : Answer) (g : CircuitDag) → accepts a ≡ true → goesOn rule s l (record { answer = numbered i a; graph = g }) ≡ insertRecords rule s g l
+goes-on rule s l i (Node v) g h = refl
+goes-on rule s l i (Refused r) g h = let z : _≡_ {A = ℕ} 0 1 = cc in absurd (omega arith)
 
 -- .. and stands in a refused one's answer
-stops : (s l : List ℕ) (i : ℕ) (a : Answer) (g : CircuitDag) (r : Refusal) → a ≡ Refused r → goesOn s l (record { answer = numbered i a; graph = g }) ≡ notLoaded (atRecord i r)
-stops s l i a g r h = ap (λ (b : Answer). goesOn s l (record { answer = numbered i b; graph = g })) h
+stops : (rule : FarRule) (s l : List ℕ) (i : ℕ) (a : Answer) (g : CircuitDag) (r : Refusal) → a ≡ Refused r → goesOn rule s l (record { answer = numbered i a; graph = g }) ≡ notLoaded (atRecord i r)
+stops rule s l i a g r h = ap (λ (b : Answer). goesOn rule s l (record { answer = numbered i b; graph = g })) h
 
 -- an accepted load with the graph after these insertions
-abbrev done : List (List ℕ) → Loaded
-done l = record { answer = Done; graph = final l }
+abbrev done : LoadingRule → List (List ℕ) → Loaded
+done rule l = record { answer = Done; graph = finalBy rule l }
 
-module _ (s order : List ℕ) where
+module _ (rule : LoadingRule) (s order : List ℕ) where
   abbrev records : List (List ℕ)
   records = recordsIn s order
 
@@ -108,45 +110,45 @@ module _ (s order : List ℕ) where
 
   -- the insertions from the k-th record on, after those of the records before
   abbrev left : ℕ → Loaded
-  left k = insertRecords s (final (take k records)) (drop k order)
+  left k = insertRecords (ruleOf rule) s (finalBy rule (take k records)) (drop k order)
 
   -- the insertions of the first k records are accepted
   abbrev Accepted : ℕ → Type 0
-  Accepted k = (j : ℕ) → j < k → accepts (stepIn s order j .answer) ≡ true
+  Accepted k = (j : ℕ) → j < k → accepts (stepIn rule s order j .answer) ≡ true
 
   -- the insertion of the k-th record leaves the graph after k + 1 insertions
-  graph-next : (k : ℕ) → k < length order → final (take (k + 1) records) ≡ stepIn s order k .graph
+  graph-next : (k : ℕ) → k < length order → finalBy rule (take (k + 1) records) ≡ stepIn rule s order k .graph
   graph-next k h =
       let c : k < length records = omega (arith, length-map order (recordAt s)) in
       let t : take (k + 1) records ≡ take k records ++ (recordAt s (number k) ∷ []) = rw (add-one, take-suc records k [] c, map-at (recordAt s) order k 0 [] h) refl in
-      ap final t ∙ after-last (take k records) empty (recordAt s (number k))
+      ap (finalBy rule) t ∙ after-last rule (take k records) empty (recordAt s (number k))
 
   -- the k-th record in its turn is that insertion, with its number
-  step-as : (k : ℕ) → insertAs nearAll (number k) (final (take k records)) (recordAt s (number k)) ≡ asRecord (number k) (stepIn s order k)
+  step-as : (k : ℕ) → insertAs (ruleOf rule) (number k) (finalBy rule (take k records)) (recordAt s (number k)) ≡ asRecord (number k) (stepIn rule s order k)
   step-as k =
-      insert-as (number k) (final (take k records)) (recordAt s (number k))
-      ∙ ap (asRecord (number k)) (sym (sound-built (take k records) .never (recordAt s (number k))))
+      insert-as (ruleOf rule) (number k) (finalBy rule (take k records)) (recordAt s (number k))
+      ∙ ap (asRecord (number k)) (sym (sound-built (allBy rule (take k records)) .never rule (recordAt s (number k))))
 
-  turn : (k : ℕ) → k < length order → left k ≡ goesOn s (drop (k + 1) order) (asRecord (number k) (stepIn s order k))
+  turn : (k : ℕ) → k < length order → left k ≡ goesOn (ruleOf rule) s (drop (k + 1) order) (asRecord (number k) (stepIn rule s order k))
   turn k h =
       let z : suc k ≡ k + 1 = omega arith in
-      ap (insertRecords s (final (take k records))) (drop-cons order k 0 h ∙ ap (λ (m : ℕ). number k ∷ drop m order) z)
-      ∙ next-record s (final (take k records)) (number k) (drop (k + 1) order)
-      ∙ ap (goesOn s (drop (k + 1) order)) (step-as k)
+      ap (insertRecords (ruleOf rule) s (finalBy rule (take k records))) (drop-cons order k 0 h ∙ ap (λ (m : ℕ). number k ∷ drop m order) z)
+      ∙ next-record (ruleOf rule) s (finalBy rule (take k records)) (number k) (drop (k + 1) order)
+      ∙ ap (goesOn (ruleOf rule) s (drop (k + 1) order)) (step-as k)
 
-  accepted-next : (k : ℕ) → k < length order → accepts (stepIn s order k .answer) ≡ true → left k ≡ left (k + 1)
+  accepted-next : (k : ℕ) → k < length order → accepts (stepIn rule s order k .answer) ≡ true → left k ≡ left (k + 1)
   accepted-next k h e =
       turn k h
-      ∙ goes-on s (drop (k + 1) order) (number k) (stepIn s order k .answer) (stepIn s order k .graph) e
-      ∙ ap (λ (g : CircuitDag). insertRecords s g (drop (k + 1) order)) (sym (graph-next k h))
+      ∙ goes-on (ruleOf rule) s (drop (k + 1) order) (number k) (stepIn rule s order k .answer) (stepIn rule s order k .graph) e
+      ∙ ap (λ (g : CircuitDag). insertRecords (ruleOf rule) s g (drop (k + 1) order)) (sym (graph-next k h))
 
-  refused-stops : (k : ℕ) (r : Refusal) → k < length order → stepIn s order k .answer ≡ Refused r → left k ≡ notLoaded (atRecord (number k) r)
-  refused-stops k r h e = turn k h ∙ stops s (drop (k + 1) order) (number k) (stepIn s order k .answer) (stepIn s order k .graph) r e
+  refused-stops : (k : ℕ) (r : Refusal) → k < length order → stepIn rule s order k .answer ≡ Refused r → left k ≡ notLoaded (atRecord (number k) r)
+  refused-stops k r h e = turn k h ∙ stops (ruleOf rule) s (drop (k + 1) order) (number k) (stepIn rule s order k .answer) (stepIn rule s order k .graph) r e
 
   -- ---- all of them
 
   abbrev whole : Loaded
-  whole = insertRecords s empty order
+  whole = insertRecords (ruleOf rule) s empty order
 
   -- the k-th record has its turn where all before it are accepted ..
   reaches : (k : ℕ) → k ≤ length order → Accepted k → whole ≡ left k
@@ -159,21 +161,21 @@ module _ (s order : List ℕ) where
       ∙ ap left z
 
   -- .. and behind the last all is done
-  ends : left (length order) ≡ done records
+  ends : left (length order) ≡ done rule records
   unfolding insertRecords
   ends =
       let t : take (length order) records ≡ records = take-all (length order) records (omega (arith, length-map order (recordAt s))) in
-      ap (insertRecords s (final (take (length order) records))) (drop-of-length-le order {i = length order} (omega arith))
-      ∙ ap done t
+      ap (insertRecords (ruleOf rule) s (finalBy rule (take (length order) records))) (drop-of-length-le order {i = length order} (omega arith))
+      ∙ ap (done rule) t
 
-  all-done : Accepted (length order) → whole ≡ done records
+  all-done : Accepted (length order) → whole ≡ done rule records
   all-done a = reaches (length order) (omega arith) a ∙ ends
 
-  refuses : (k : ℕ) (r : Refusal) → k < length order → Accepted k → stepIn s order k .answer ≡ Refused r → whole ≡ notLoaded (atRecord (number k) r)
+  refuses : (k : ℕ) (r : Refusal) → k < length order → Accepted k → stepIn rule s order k .answer ≡ Refused r → whole ≡ notLoaded (atRecord (number k) r)
   refuses k r h a q = reaches k (omega arith) a ∙ refused-stops k r h q
 
   -- where all is accepted, no record is the first one refused ..
-  not-refused : whole .answer ≡ Done → (k : ℕ) → k < length order → Accepted k → (x : Answer) → stepIn s order k .answer ≡ x → accepts x ≡ true
+  not-refused : whole .answer ≡ Done → (k : ℕ) → k < length order → Accepted k → (x : Answer) → stepIn rule s order k .answer ≡ x → accepts x ≡ true
   not-refused d k h a (Node v) q = refl
   not-refused d k h a (Refused r) q =
       let t = refuses k r h a q in
@@ -185,9 +187,9 @@ module _ (s order : List ℕ) where
   accepted d zero h j l = absurd (omega arith)
   accepted d (suc k) h j l =
       let a : Accepted k = accepted d k (omega arith) in
-      elim (ℕ-discrete j k) [ yes e ↦ rw e (not-refused d k (omega arith) a (stepIn s order k .answer) refl) | no e ↦ a j (omega arith) ]
+      elim (ℕ-discrete j k) [ yes e ↦ rw e (not-refused d k (omega arith) a (stepIn rule s order k .answer) refl) | no e ↦ a j (omega arith) ]
 
-  inserts : (x : Loaded) → x ≡ whole → Inserts s order x
+  inserts : (x : Loaded) → x ≡ whole → Inserts rule s order x
   inserts x e =
       let answer : x .answer ≡ whole .answer = ap (λ (y : Loaded). y .answer) e in
       record {
@@ -199,14 +201,14 @@ module _ (s order : List ℕ) where
 
 -- ---- a load and a conversion
 
-pub load-inserts : (s : List ℕ) → LoadInserts s
-unfolding load
-load-inserts s = record {
+pub load-inserts : (rule : LoadingRule) (s : List ℕ) → LoadInserts rule s
+unfolding loadBy
+load-inserts rule s = record {
   sound = checked (checkFile s);
-  inserts = λ e. inserts s (upTo (countOf s)) (load s) (ap (λ (c : FileCheck). loadChecked c s) e);
+  inserts = λ e. inserts rule s (upTo (countOf s)) (loadBy rule s) (ap (λ (c : FileCheck). loadChecked (ruleOf rule) c s) e);
 }
   where
-    checked : (c : FileCheck) → loadChecked c s .answer ≡ Done → c ≡ Sound
+    checked : (c : FileCheck) → loadChecked (ruleOf rule) c s .answer ≡ Done → c ≡ Sound
     checked Sound h = refl
     checked (BadFile r) h = let z : _≡_ {A = ℕ} 0 1 = cc in absurd (omega arith)
 
@@ -214,7 +216,7 @@ pub conversion-inserts : (s : List ℕ) → ConversionInserts s
 unfolding fromCircuit
 conversion-inserts s = record {
   sound = checked (checkFile s);
-  inserts = λ e b. inserts s (insertionOrder s) (fromCircuit s) (ap (λ (c : FileCheck). convertChecked c s) e ∙ ap (convert s) b);
+  inserts = λ e b. inserts NearAll s (insertionOrder s) (fromCircuit s) (ap (λ (c : FileCheck). convertChecked c s) e ∙ ap (convert s) b);
 }
   where
     listed : (l : List ℕ) → convert s l .answer ≡ Done → l ≡ []

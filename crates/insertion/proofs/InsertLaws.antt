@@ -22,7 +22,8 @@ use Rattle.graph.proofs.SoundnessLaws.{Sound, sound-told, sound-clauses, all-le
 use Rattle.file.specs.declared.Outcome.{Outcome}
 use Rattle.file.specs.declared.Outcome.the-variants.{Done, Refused}
 use Rattle.links.specs.declared.LinkedRecords.{LinkedRecords}
-use Rattle.links.specs.Links.{nearAll}
+use Rattle.links.specs.Links.{FarRule, ruleOf}
+use Rattle.links.specs.declared.LoadingRule.{LoadingRule}
 use Rattle.links.specs.Linking.{linksFit, linksStopped, linkRecord, linksKept, linkNode}
 use Rattle.links.proofs.LinkingLaws.{when-done}
 use Rattle.registers.specs.declared.Registered.{Registered}
@@ -31,7 +32,7 @@ use Rattle.insertion.specs.declared.Answer.the-variants.{Node}
 use Rattle.insertion.specs.declared.Inserted.{Inserted}
 use Rattle.insertion.specs.declared.nodes.NodeLists.{NodeLists}
 use Rattle.insertion.specs.Insertion.{commutes, grown}
-use Rattle.insertion.specs.Limits.{refused, edgesPass, insertAs, insertOf}
+use Rattle.insertion.specs.Limits.{refused, edgesPass, insertAs, insertBy}
 use Rattle.insertion.specs.Parts.{nodeLists, nodeAfter, assembled}
 use Rattle.insertion.proofs.PartLaws.{linksOf, mapsOf, not-both, full, over, many, grows, links-full, links-over, links-grown, maps-pass}
 use Rattle.insertion.proofs.PartLaws.{registers-at, nodes-at}
@@ -96,21 +97,21 @@ module _ (g : CircuitDag) (h : sound g ≡ true) where
 
 -- ---- the answer
 
-module _ (g : CircuitDag) (b : List ℕ) (keeps : recordRule b ≡ true) where
+module _ (rule : FarRule) (g : CircuitDag) (b : List ℕ) (keeps : recordRule b ≡ true) where
   abbrev pub once : LinkedRecords
-  once = linkRecord 0 (front b) (qubitsOf b) (linksOf g)
+  once = linkRecord rule 0 (front b) (qubitsOf b) (linksOf g)
 
   -- a refusal by the links
-  pub link-refused : (c : Refusal) → once .answer ≡ Refused c → refused c g ≡ insertAs nearAll 0 g b
-  link-refused c e = by-limits (leb 512 (size g)) (edgesPass nearAll g b) refl refl
+  pub link-refused : (c : Refusal) → once .answer ≡ Refused c → refused c g ≡ insertAs rule 0 g b
+  link-refused c e = by-limits (leb 512 (size g)) (edgesPass rule g b) refl refl
     where
-      same : (d : Refusal) → once ≡ linksStopped (size g) d → insertAs nearAll 0 g b ≡ refused d g → refused c g ≡ insertAs nearAll 0 g b
+      same : (d : Refusal) → once ≡ linksStopped (size g) d → insertAs rule 0 g b ≡ refused d g → refused c g ≡ insertAs rule 0 g b
       same d q i = let w : Refused d ≡ Refused c = rw q at e in let y : d ≡ c = cc in ap (λ (x : Refusal). refused x g) (sym y) ∙ sym i
 
-      by-limits : (p q : Bool) → leb 512 (size g) ≡ p → edgesPass nearAll g b ≡ q → refused c g ≡ insertAs nearAll 0 g b
-      by-limits true q l m = same TooManyNodes (links-full 0 g b l) (full 0 g b keeps l)
-      by-limits false true l m = same (TooManyEdges 0) (links-over 0 g b keeps l m) (over 0 g b keeps l m)
-      by-limits false false l m = not-both c (sym (ap (λ (x : LinkedRecords). x .answer) (links-grown 0 g b keeps l m)) ∙ e)
+      by-limits : (p q : Bool) → leb 512 (size g) ≡ p → edgesPass rule g b ≡ q → refused c g ≡ insertAs rule 0 g b
+      by-limits true q l m = same TooManyNodes (links-full rule 0 g b l) (full rule 0 g b keeps l)
+      by-limits false true l m = same (TooManyEdges 0) (links-over rule 0 g b keeps l m) (over rule 0 g b keeps l m)
+      by-limits false false l m = not-both c (sym (ap (λ (x : LinkedRecords). x .answer) (links-grown rule 0 g b keeps l m)) ∙ e)
 
   -- the links accept: there is a free node, and room for the edges
   module _ (done : once .answer ≡ Done) where
@@ -119,14 +120,14 @@ module _ (g : CircuitDag) (b : List ℕ) (keeps : recordRule b ≡ true) where
       where
         by-limit : (p : Bool) → leb 512 (size g) ≡ p → p ≡ false
         by-limit false l = refl
-        by-limit true l = not-both TooManyNodes (sym done ∙ ap (λ (x : LinkedRecords). x .answer) (links-full 0 g b l))
+        by-limit true l = not-both TooManyNodes (sym done ∙ ap (λ (x : LinkedRecords). x .answer) (links-full rule 0 g b l))
 
-    room : edgesPass nearAll g b ≡ false
-    room = by-limit (edgesPass nearAll g b) refl
+    room : edgesPass rule g b ≡ false
+    room = by-limit (edgesPass rule g b) refl
       where
-        by-limit : (q : Bool) → edgesPass nearAll g b ≡ q → q ≡ false
+        by-limit : (q : Bool) → edgesPass rule g b ≡ q → q ≡ false
         by-limit false m = refl
-        by-limit true m = not-both (TooManyEdges 0) (sym done ∙ ap (λ (x : LinkedRecords). x .answer) (links-over 0 g b keeps free m))
+        by-limit true m = not-both (TooManyEdges 0) (sym done ∙ ap (λ (x : LinkedRecords). x .answer) (links-over rule 0 g b keeps free m))
 
     pub free-node : size g < 512
     free-node = leb-false 512 (size g) free
@@ -139,7 +140,7 @@ module _ (g : CircuitDag) (b : List ℕ) (keeps : recordRule b ≡ true) where
       passing = mapsPass (mapsAfter b (size g) (g .«first_registers») (g .«last_registers»))
 
       abbrev after : CircuitDag
-      after = grown nearAll g b
+      after = grown rule g b
 
       abbrev new : Registered
       new = stored (front b) (v .0 + 1) (g .«first_registers») (g .«last_registers») (mapsAfter b (size g) (g .«first_registers») (g .«last_registers»))
@@ -148,77 +149,77 @@ module _ (g : CircuitDag) (b : List ℕ) (keeps : recordRule b ≡ true) where
       unfolding registerRecord
       maps-by p e = rw (is, first, last, keeps, free, e) refl
 
-      pub too-many : (c : Refusal) → maps .answer ≡ Refused c → refused c g ≡ insertAs nearAll 0 g b
+      pub too-many : (c : Refusal) → maps .answer ≡ Refused c → refused c g ≡ insertAs rule 0 g b
       too-many c z = by-pass passing refl
         where
-          by-pass : (p : Bool) → passing ≡ p → refused c g ≡ insertAs nearAll 0 g b
+          by-pass : (p : Bool) → passing ≡ p → refused c g ≡ insertAs rule 0 g b
           by-pass true e =
               let w : Refused (TooManyRegisters 0) ≡ Refused c = sym (ap (λ (x : Registered). x .answer) (maps-by true e)) ∙ z in
               let y : TooManyRegisters 0 ≡ c = cc in
-              ap (λ (x : Refusal). refused x g) (sym y) ∙ sym (many 0 g b keeps free room (maps-pass 0 g b ∙ e))
+              ap (λ (x : Refusal). refused x g) (sym y) ∙ sym (many rule 0 g b keeps free room (maps-pass g b ∙ e))
           by-pass false e = not-both c (sym (ap (λ (x : Registered). x .answer) (maps-by false e)) ∙ z)
 
-      pub inserted : maps .answer ≡ Done → record { answer = Node v; graph = assembled (nodeAfter b (nodeLists g)) once maps } ≡ insertAs nearAll 0 g b
+      pub inserted : maps .answer ≡ Done → record { answer = Node v; graph = assembled (nodeAfter b (nodeLists g)) once maps } ≡ insertAs rule 0 g b
       inserted z = by-pass passing refl
         where
-          by-pass : (p : Bool) → passing ≡ p → record { answer = Node v; graph = assembled (nodeAfter b (nodeLists g)) once maps } ≡ insertAs nearAll 0 g b
+          by-pass : (p : Bool) → passing ≡ p → record { answer = Node v; graph = assembled (nodeAfter b (nodeLists g)) once maps } ≡ insertAs rule 0 g b
           by-pass true e = not-both (TooManyRegisters 0) (sym z ∙ ap (λ (x : Registered). x .answer) (maps-by true e))
           by-pass false e =
-              let d = grows 0 g b keeps free room (maps-pass 0 g b ∙ e) in
-              let n = nodes-at g b (front b) (commutes b) refl refl in
+              let d = grows rule 0 g b keeps free room (maps-pass g b ∙ e) in
+              let n = nodes-at rule g b (front b) (commutes b) refl refl in
               let r = maps-by false e in
-              let q : new ≡ mapsOf after = (λ j. stored (front b) (is j + 1) (g .«first_registers») (g .«last_registers») (mapsAfter b (size g) (g .«first_registers») (g .«last_registers»))) ∙ registers-at g b (front b) refl in
+              let q : new ≡ mapsOf after = (λ j. stored (front b) (is j + 1) (g .«first_registers») (g .«last_registers») (mapsAfter b (size g) (g .«first_registers») (g .«last_registers»))) ∙ registers-at rule g b (front b) refl in
               let w : v ≡ node (size g) = λ j. record { 0 = is j } in
-              let x = links-grown 0 g b keeps free room in
+              let x = links-grown rule 0 g b keeps free room in
               let here : _≡_ {A = Inserted} (record { answer = Node v; graph = assembled (nodeAfter b (nodeLists g)) once maps }) (record { answer = Node (node (size g)); graph = assembled (nodeLists after) (linksOf after) new }) = λ j. record { answer = Node (w j); graph = assembled (n j) (x j) (r j) } in
               let there : _≡_ {A = Inserted} (record { answer = Node (node (size g)); graph = assembled (nodeLists after) (linksOf after) new }) (record { answer = Node (node (size g)); graph = after }) = λ j. record { answer = Node (node (size g)); graph = assembled (nodeLists after) (linksOf after) (q j) } in
               here ∙ there ∙ sym d
 
 -- ---- `insert_sound`
 
-module _ (g : CircuitDag) (h : sound g ≡ true) (z : DagSized g) (b : List ℕ) (keeps : recordRule b ≡ true) where
+module _ (rule : FarRule) (g : CircuitDag) (h : sound g ≡ true) (z : DagSized g) (b : List ℕ) (keeps : recordRule b ≡ true) where
   -- the links of the parsed record
-  module _ (s : Record) (x : LinkedRecords) (is : s ≡ recordOf b) (ex : x ≡ linkNode (s .front) (s .qubits) (node (size g)) (g .edges) (g .first) (g .last)) where
-    by-answer : x ≡ elim (once g b keeps .answer) [ Done ↦ once g b keeps | Refused r ↦ linksKept (node (size g)) (g .edges) (g .first) (g .last) r ]
+  module _ (s : Record) (x : LinkedRecords) (is : s ≡ recordOf b) (ex : x ≡ linkNode rule (s .front) (s .qubits) (node (size g)) (g .edges) (g .first) (g .last)) where
+    by-answer : x ≡ elim (once rule g b keeps .answer) [ Done ↦ once rule g b keeps | Refused r ↦ linksKept (node (size g)) (g .edges) (g .first) (g .last) r ]
     unfolding linkNode
-    by-answer = ex ∙ ap (λ (r : Record). linkNode (r .front) (r .qubits) (node (size g)) (g .edges) (g .first) (g .last)) is ∙ rw (links-fit g h z) refl
+    by-answer = ex ∙ ap (λ (r : Record). linkNode rule (r .front) (r .qubits) (node (size g)) (g .edges) (g .first) (g .last)) is ∙ rw (links-fit g h z) refl
 
-    answer-is : x .answer ≡ once g b keeps .answer
-    answer-is = ap (λ (y : LinkedRecords). y .answer) by-answer ∙ kept (once g b keeps .answer) refl
+    answer-is : x .answer ≡ once rule g b keeps .answer
+    answer-is = ap (λ (y : LinkedRecords). y .answer) by-answer ∙ kept (once rule g b keeps .answer) refl
       where
-        kept : (a : Outcome) → once g b keeps .answer ≡ a → (let y : LinkedRecords = elim a [ Done ↦ once g b keeps | Refused r ↦ linksKept (node (size g)) (g .edges) (g .first) (g .last) r ] in y .answer ≡ a)
+        kept : (a : Outcome) → once rule g b keeps .answer ≡ a → (let y : LinkedRecords = elim a [ Done ↦ once rule g b keeps | Refused r ↦ linksKept (node (size g)) (g .edges) (g .first) (g .last) r ] in y .answer ≡ a)
         kept Done e = e
         kept (Refused r) e = refl
 
-    pub stays : (c : Refusal) → x .answer ≡ Refused c → refused c g ≡ insertAs nearAll 0 g b
-    stays c e = link-refused g b keeps c (sym answer-is ∙ e)
+    pub stays : (c : Refusal) → x .answer ≡ Refused c → refused c g ≡ insertAs rule 0 g b
+    stays c e = link-refused rule g b keeps c (sym answer-is ∙ e)
 
     module _ (done : x .answer ≡ Done) where
-      all : once g b keeps .answer ≡ Done
+      all : once rule g b keeps .answer ≡ Done
       all = sym answer-is ∙ done
 
-      is-once : x ≡ once g b keeps
-      is-once = by-answer ∙ when-done (once g b keeps) (linksKept (node (size g)) (g .edges) (g .first) (g .last)) (once g b keeps .answer) all
+      is-once : x ≡ once rule g b keeps
+      is-once = by-answer ∙ when-done (once rule g b keeps) (linksKept (node (size g)) (g .edges) (g .first) (g .last)) (once rule g b keeps .answer) all
 
       pub lists-fit : (n : NodeLists) → n ≡ nodeLists g → (n .nodes .count < 512) × (n .commuting .count < 512) × (n .backs < 512) × (n .fronts < 512)
       lists-fit n e =
-          let f = free-node g b keeps all in
+          let f = free-node rule g b keeps all in
           rw e (f, omega (arith, f, commuting-few g h z), omega (arith, f, ends-sum g h z), omega (arith, f, ends-sum g h z))
 
       module _ (r : Registered) (er : r ≡ registerRecord (g .«first_registers») (g .«last_registers») b (node (size g))) where
-        pub passes : (c : Refusal) → r .answer ≡ Refused c → refused c g ≡ insertAs nearAll 0 g b
-        passes c e = too-many g b keeps all (first-map g h z) (last-map g h z) (node (size g)) refl c (sym (ap (λ (y : Registered). y .answer) er) ∙ e)
+        pub passes : (c : Refusal) → r .answer ≡ Refused c → refused c g ≡ insertAs rule 0 g b
+        passes c e = too-many rule g b keeps all (first-map g h z) (last-map g h z) (node (size g)) refl c (sym (ap (λ (y : Registered). y .answer) er) ∙ e)
 
-        pub grown-is : r .answer ≡ Done → (l n : NodeLists) → l ≡ nodeLists g → n ≡ nodeAfter b l → (a : CircuitDag) → a ≡ assembled n x r → record { answer = Node (node (size g)); graph = a } ≡ insertAs nearAll 0 g b
+        pub grown-is : r .answer ≡ Done → (l n : NodeLists) → l ≡ nodeLists g → n ≡ nodeAfter b l → (a : CircuitDag) → a ≡ assembled n x r → record { answer = Node (node (size g)); graph = a } ≡ insertAs rule 0 g b
         grown-is e l n el en a ea =
-            let i = inserted g b keeps all (first-map g h z) (last-map g h z) (node (size g)) refl (sym (ap (λ (q : Registered). q .answer) er) ∙ e) in
-            let p : a ≡ assembled (nodeAfter b (nodeLists g)) (once g b keeps) (registerRecord (g .«first_registers») (g .«last_registers») b (node (size g))) = ea ∙ (λ j. assembled (en j) (is-once j) (er j)) ∙ ap (λ (y : NodeLists). assembled (nodeAfter b y) (once g b keeps) (registerRecord (g .«first_registers») (g .«last_registers») b (node (size g)))) el in
+            let i = inserted rule g b keeps all (first-map g h z) (last-map g h z) (node (size g)) refl (sym (ap (λ (q : Registered). q .answer) er) ∙ e) in
+            let p : a ≡ assembled (nodeAfter b (nodeLists g)) (once rule g b keeps) (registerRecord (g .«first_registers») (g .«last_registers») b (node (size g))) = ea ∙ (λ j. assembled (en j) (is-once j) (er j)) ∙ ap (λ (y : NodeLists). assembled (nodeAfter b y) (once rule g b keeps) (registerRecord (g .«first_registers») (g .«last_registers») b (node (size g)))) el in
             ap (λ (y : CircuitDag). record { answer = Node (node (size g)); graph = y }) p ∙ i
 
-pub sound-inserts : (g : CircuitDag) (bytes : List ℕ) → sound g ≡ true → insertAs nearAll 0 g bytes ≡ insertOf g bytes
-unfolding insertOf
-sound-inserts g bytes h = rw h refl
+pub sound-inserts : (rule : LoadingRule) (g : CircuitDag) (bytes : List ℕ) → sound g ≡ true → insertAs (ruleOf rule) 0 g bytes ≡ insertBy rule g bytes
+unfolding insertBy
+sound-inserts rule g bytes h = rw h refl
 
-pub unsound-refuses : (g : CircuitDag) (bytes : List ℕ) → sound g ≡ false → refused Unsound g ≡ insertOf g bytes
-unfolding insertOf
-unsound-refuses g bytes h = rw h refl
+pub unsound-refuses : (rule : LoadingRule) (g : CircuitDag) (bytes : List ℕ) → sound g ≡ false → refused Unsound g ≡ insertBy rule g bytes
+unfolding insertBy
+unsound-refuses rule g bytes h = rw h refl

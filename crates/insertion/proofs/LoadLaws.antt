@@ -18,47 +18,52 @@ use Rattle.graph.specs.Dag.{empty}
 use Rattle.graph.proofs.ListLaws.{length-countFrom, at-all}
 use Rattle.file.specs.declared.Outcome.the-variants.{Done, Refused}
 use Rattle.links.specs.declared.LinkedRecords.{LinkedRecords}
+use Rattle.links.specs.Links.{FarRule, ruleOf}
+use Rattle.links.specs.declared.LoadingRule.{LoadingRule}
 use Rattle.links.specs.Linking.{noLinks, linkRecords}
 use Rattle.registers.specs.declared.Registered.{Registered}
 use Rattle.registers.specs.declared.RegisteredRecords.{RegisteredRecords}
 use Rattle.registers.specs.Registers.{enterRecords, registerRecords}
-use Rattle.insertion.specs.Load.{notLoaded, insertRecords, load}
+use Rattle.insertion.specs.Load.{notLoaded, insertRecords, loadBy}
 use Rattle.insertion.specs.Parts.{nodeLists, nodesAfter, assembled}
 use Rattle.insertion.proofs.PartLaws.{Together, together}
 
 -- ---- `insert_in_order`
 
-module _ (s l : List ℕ) (sure : checkFile s ≡ Sound) (below : allOf (λ i. ltb i (countOf s)) l ≡ true) (short : length l ≤ 512) where
+module _ (rule : FarRule) (s l : List ℕ) (sure : checkFile s ≡ Sound) (below : allOf (λ i. ltb i (countOf s)) l ≡ true) (short : length l ≤ 512) where
   abbrev links : LinkedRecords
-  links = linkRecords s noLinks l
+  links = linkRecords rule s noLinks l
 
   abbrev maps : Registered
   maps = enterRecords s (take (links .accepted) l)
 
-  t : Together s empty l links maps
+  t : Together rule s empty l links maps
   unfolding empty
-  t = let z : links .accepted - 0 ≡ links .accepted = omega arith in subst (λ (n : ℕ). Together s empty l links (enterRecords s (take n l))) z (together s sure l below empty (omega arith))
+  t =
+      let z : links .accepted - 0 ≡ links .accepted = omega arith in
+      subst (λ (n : ℕ). Together rule s empty l links (enterRecords s (take n l))) z (together rule s sure l below empty (omega arith))
 
-  module _ (y : RegisteredRecords) (made : y ≡ registerRecords s l) where
-    parts : Together s empty l (y .linked) (y .registered)
+  module _ (y : RegisteredRecords) (made : y ≡ registerRecords rule s l) where
+    parts : Together rule s empty l (y .linked) (y .registered)
     unfolding registerRecords
-    parts = subst (λ (y : RegisteredRecords). Together s empty l (y .linked) (y .registered)) (sym made) t
+    parts = subst (λ (y : RegisteredRecords). Together rule s empty l (y .linked) (y .registered)) (sym made) t
 
-    pub maps-refuse : (c : Refusal) → y .registered .answer ≡ Refused c → notLoaded c ≡ insertRecords s empty l
+    pub maps-refuse : (c : Refusal) → y .registered .answer ≡ Refused c → notLoaded c ≡ insertRecords rule s empty l
     maps-refuse c e = sym (parts .many c e)
 
     module _ (done : y .registered .answer ≡ Done) where
-      pub links-refuse : (c : Refusal) → y .linked .answer ≡ Refused c → notLoaded c ≡ insertRecords s empty l
+      pub links-refuse : (c : Refusal) → y .linked .answer ≡ Refused c → notLoaded c ≡ insertRecords rule s empty l
       links-refuse c e = sym (parts .stops c done e)
 
-      pub both-accept : y .linked .answer ≡ Done → record { answer = Done; graph = assembled (nodesAfter s (nodeLists empty) l) (y .linked) (y .registered) } ≡ insertRecords s empty l
+      pub both-accept : y .linked .answer ≡ Done
+          → record { answer = Done; graph = assembled (nodesAfter s (nodeLists empty) l) (y .linked) (y .registered) } ≡ insertRecords rule s empty l
       both-accept e = sym (parts .whole done e)
 
 -- ---- `load`
 
-pub bad-file : (file : List ℕ) (r : Refusal) → checkFile file ≡ BadFile r → notLoaded r ≡ load file
-unfolding load
-bad-file file r e = rw e refl
+pub bad-file : (rule : LoadingRule) (file : List ℕ) (r : Refusal) → checkFile file ≡ BadFile r → notLoaded r ≡ loadBy rule file
+unfolding loadBy
+bad-file rule file r e = rw e refl
 
 pub take-upTo : (n m k : ℕ) → n ≤ m → take n (countFrom m k) ≡ countFrom n k
 unfolding countFrom
@@ -88,9 +93,9 @@ module _ (file order : List ℕ) (n : ℕ) (e : order ≡ upTo 512) (m : n ≡ c
   pub numbers-below : allOf (λ i. ltb i (countOf file)) (take (n - 0) (drop 0 order)) ≡ true
   numbers-below = rw (numbers, ← m) (all-below n)
 
-  pub whole : insertRecords file empty (take (n - 0) (drop 0 order)) ≡ load file
-  unfolding load
-  whole = rw (numbers, m, good) refl
+  pub whole : (rule : LoadingRule) → insertRecords (ruleOf rule) file empty (take (n - 0) (drop 0 order)) ≡ loadBy rule file
+  unfolding loadBy
+  whole rule = rw (numbers, m, good) refl
 
 -- ---- `file_order`
 

@@ -152,34 +152,34 @@ module _ (s : List ℕ) where
   -- ---- a list of insertions
 
   abbrev step : CircuitDag → List ℕ → Inserted → Loaded
-  step g l x = elim (x .answer) as (λ y. Loaded) [ IsNode v ↦ insertRecords s (x .graph) l | NotInserted r ↦ notLoaded r ]
+  step g l x = elim (x .answer) as (λ y. Loaded) [ IsNode v ↦ insertRecords nearAll s (x .graph) l | NotInserted r ↦ notLoaded r ]
 
-  goes-on : (i : ℕ) (l : List ℕ) (g : CircuitDag) (x : Inserted) → insertAs nearAll i g (recordAt s i) ≡ x → insertRecords s g (i ∷ l) ≡ step g l x
+  goes-on : (i : ℕ) (l : List ℕ) (g : CircuitDag) (x : Inserted) → insertAs nearAll i g (recordAt s i) ≡ x → insertRecords nearAll s g (i ∷ l) ≡ step g l x
   unfolding insertRecords
   goes-on i l g x e = ap (step g l) e
 
-  stops : (i : ℕ) (l : List ℕ) (g : CircuitDag) (r : Refusal) → insertAs nearAll i g (recordAt s i) .answer ≡ NotInserted r → insertRecords s g (i ∷ l) ≡ notLoaded r
+  stops : (i : ℕ) (l : List ℕ) (g : CircuitDag) (r : Refusal) → insertAs nearAll i g (recordAt s i) .answer ≡ NotInserted r → insertRecords nearAll s g (i ∷ l) ≡ notLoaded r
   unfolding insertRecords
-  stops i l g r e = ap (λ (y : Answer). elim y as (λ z. Loaded) [ IsNode v ↦ insertRecords s (insertAs nearAll i g (recordAt s i) .graph) l | NotInserted r ↦ notLoaded r ]) e
+  stops i l g r e = ap (λ (y : Answer). elim y as (λ z. Loaded) [ IsNode v ↦ insertRecords nearAll s (insertAs nearAll i g (recordAt s i) .graph) l | NotInserted r ↦ notLoaded r ]) e
 
   abbrev back : ℕ → Bool
   back i = not (front (recordAt s i))
 
-  none-left : (g : CircuitDag) → insertRecords s g [] .graph ≡ g
+  none-left : (g : CircuitDag) → insertRecords nearAll s g [] .graph ≡ g
   unfolding insertRecords
   none-left g = refl
 
-  inserts : (l done : List ℕ) (g : CircuitDag) → Filled done g → allOf back l ≡ true → insertRecords s g l .answer ≡ Done → Filled (done ++ l) (insertRecords s g l .graph)
+  inserts : (l done : List ℕ) (g : CircuitDag) → Filled done g → allOf back l ≡ true → insertRecords nearAll s g l .answer ≡ Done → Filled (done ++ l) (insertRecords nearAll s g l .graph)
   inserts [] done g F a h = subst (λ (x : CircuitDag). Filled (done ++ []) x) (sym (none-left g)) (subst (λ (m : List ℕ). Filled m g) (sym (append-nil done)) F)
   inserts (i ∷ l) done g F a h = ⊎-elim
       (λ (x : (size g < 512) × (insertAs nearAll i g (recordAt s i) ≡ record { answer = IsNode (node (size g)); graph = grown nearAll g (recordAt s i) })).
       let g′ = grown nearAll g (recordAt s i) in
-      let e : insertRecords s g (i ∷ l) ≡ insertRecords s g′ l = goes-on i l g (record { answer = IsNode (node (size g)); graph = g′ }) (x .1) in
+      let e : insertRecords nearAll s g (i ∷ l) ≡ insertRecords nearAll s g′ l = goes-on i l g (record { answer = IsNode (node (size g)); graph = g′ }) (x .1) in
       let t : back i ≡ true = not-false (λ q. clash-bool a (all-fails back i l q)) in
       let f : Filled (done ++ (i ∷ [])) g′ = filled-more done g F i (not-flip (front (recordAt s i)) t) (x .0) in
       let r = inserts l (done ++ (i ∷ [])) g′ f (sym (all-here back i l t) ∙ a) (sym (ap (λ (y : Loaded). y .answer) e) ∙ h) in
       subst (λ (y : Loaded). Filled (done ++ (i ∷ l)) (y .graph)) (sym e)
-      (subst (λ (m : List ℕ). Filled m (insertRecords s g′ l .graph)) (append-assoc done (i ∷ []) l) r))
+      (subst (λ (m : List ℕ). Filled m (insertRecords nearAll s g′ l .graph)) (append-assoc done (i ∷ []) l) r))
       (λ (x : (r : Refusal) × (insertAs nearAll i g (recordAt s i) .answer ≡ NotInserted r)).
       let e : Refused (x .0) ≡ Done = sym (ap (λ (y : Loaded). y .answer) (stops i l g (x .0) (x .1))) ∙ h in
       let z : _≡_ {A = ℕ} 0 1 = cc in
@@ -217,7 +217,7 @@ none-kept p q f (x ∷ l) h = ⊎-elim
     (bool-cases (p x))
 
 record Accepted (s : List ℕ) : Type 0 where
-  pub same : fromCircuit s ≡ insertRecords s empty (insertionOrder s)
+  pub same : fromCircuit s ≡ insertRecords nearAll s empty (insertionOrder s)
   pub whole : keep (broken s) (upTo (countOf s)) ≡ []
 
 accepted-told : (s : List ℕ) → fromCircuit s .answer ≡ Done → Accepted s

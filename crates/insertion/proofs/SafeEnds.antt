@@ -15,12 +15,13 @@ use Rattle.file.specs.Lists.{anyOf, allOf, member, isEmpty}
 use Rattle.file.specs.declared.InvolvedQubits.{InvolvedQubits}
 use Rattle.file.specs.declared.InvolvedQubits.the-variants.{None, All, Set}
 use Rattle.file.specs.Records.{formOf}
+use Rattle.graph.specs.declared.NodeIndex.{NodeIndex}
 use Rattle.graph.specs.declared.End.{End}
 use Rattle.graph.specs.Dag.{absent, present, orElse, node, atQubit}
 use Rattle.file.proofs.BoolLaws.{bool-cases, clash-bool, not-true, not-false, or-cases, eqb-same}
 use Rattle.graph.proofs.ListLaws.{any-here, any-later, any-append, any-at, at-any, all-at}
-use Rattle.links.specs.Links.{Linked, nearAll, source, noQubit, qubits, linkQubits, joinFar, linkSet, mapped, linkAll, linkBy}
-use Rattle.links.proofs.LinkLaws.{addPresent, linkOne, others-below}
+use Rattle.links.specs.Links.{Linked, FarRule, source, noQubit, qubits, linkQubits, joinFar, linkSet, mapped, linkAll, linkBy}
+use Rattle.links.proofs.LinkLaws.{addPresent, linkOne, others-below, NamesAll}
 
 -- ---- one store in a list
 
@@ -373,7 +374,7 @@ module _ (n : ℕ) (op : ℕ → Bool) (near far : End) where
     others : (w : ℕ) → member w (x .others) ≡ true → (w ≡ n) ⊎ Stood w
     near-member : (u : ℕ) → getD (x .near .block) u false ≡ true → (u ≡ n) ⊎ ((getD (near .block) u false ≡ true) × (member u (x .others) ≡ false))
 
-  module _ (Out In : ℕ → Type 0) (S : Side n op Out near far) (T : Side n op In far near) (low : n < 512) where
+  module _ (rule : FarRule) (names : NamesAll rule) (Out In : ℕ → Type 0) (S : Side n op Out near far) (T : Side n op In far near) (low : n < 512) where
     begin : Linking (record { near = near; far = far; others = [] })
     unfolding anyOf
     begin = record {
@@ -411,21 +412,32 @@ module _ (n : ℕ) (op : ℕ → Bool) (near far : End) where
           (λ (e : present (source (x .near) q) ≡ false). rw e (λ h. (h, λ y. clash-bool (y .1) refl)))
           (bool-cases (present (source (x .near) q)))
 
-      far-node : (e : Bool) → length (cond e (x .far .node) (set (x .far .node) q (orElse (x .near .all .0) n))) ≡ 64
+      far-node : (e : Bool) → length (cond e (x .far .node) (set (x .far .node) q (orElse (rule (x .near) (x .far)) n))) ≡ 64
       far-node true = L .far-nodes
-      far-node false = length-set (x .far .node) q (orElse (x .near .all .0) n) ∙ L .far-nodes
+      far-node false = length-set (x .far .node) q (orElse (rule (x .near) (x .far)) n) ∙ L .far-nodes
+
+      -- the node that the rule names is an end's all-qubit node
+      rule-old : present (rule (x .near) (x .far)) ≡ true → Old n op (rule (x .near) (x .far))
+      rule-old p = ⊎-elim
+          (λ (e : rule (x .near) (x .far) ≡ x .near .all .0).
+          let a = e ∙ ap (λ (v : NodeIndex). v .0) (L .near-all) in
+          subst (λ (u : ℕ). Old n op u) (sym a) (S .all (subst (λ (u : ℕ). present u ≡ true) a p)))
+          (λ (e : rule (x .near) (x .far) ≡ x .far .all .0).
+          let a = e ∙ ap (λ (v : NodeIndex). v .0) (L .far-all) in
+          subst (λ (u : ℕ). Old n op u) (sym a) (T .all (subst (λ (u : ℕ). present u ≡ true) a p)))
+          (names (x .near) (x .far) p)
 
       -- "first[q] becomes lastAll, or v if that is absent"
-      far-stood : (e : Bool) (j : ℕ) → present (getD (cond e (x .far .node) (set (x .far .node) q (orElse (x .near .all .0) n))) j absent) ≡ true
-          → (getD (cond e (x .far .node) (set (x .far .node) q (orElse (x .near .all .0) n))) j absent ≡ n) ⊎ Old n op (getD (cond e (x .far .node) (set (x .far .node) q (orElse (x .near .all .0) n))) j absent)
+      far-stood : (e : Bool) (j : ℕ) → present (getD (cond e (x .far .node) (set (x .far .node) q (orElse (rule (x .near) (x .far)) n))) j absent) ≡ true
+          → (getD (cond e (x .far .node) (set (x .far .node) q (orElse (rule (x .near) (x .far)) n))) j absent ≡ n) ⊎ Old n op (getD (cond e (x .far .node) (set (x .far .node) q (orElse (rule (x .near) (x .far)) n))) j absent)
       far-stood true j p = L .far-entry j p
       far-stood false j p = ⊎-elim
-          (λ (e : getD (set (x .far .node) q (orElse (x .near .all .0) n)) j absent ≡ orElse (x .near .all .0) n).
-          rw e (else-cases (λ u. (u ≡ n) ⊎ Old n op u) (x .near .all .0) n (rw (L .near-all) (λ (t : present (near .all .0) ≡ true). inr (S .all t))) (λ t. inl refl) (rw e at p)))
-          (λ (e : getD (set (x .far .node) q (orElse (x .near .all .0) n)) j absent ≡ atQubit (x .far) j). rw e (L .far-entry j (rw e at p)))
-          (set-cases (x .far .node) q j (orElse (x .near .all .0) n) absent)
+          (λ (e : getD (set (x .far .node) q (orElse (rule (x .near) (x .far)) n)) j absent ≡ orElse (rule (x .near) (x .far)) n).
+          rw e (else-cases (λ u. (u ≡ n) ⊎ Old n op u) (rule (x .near) (x .far)) n (λ t. inr (rule-old t)) (λ t. inl refl) (rw e at p)))
+          (λ (e : getD (set (x .far .node) q (orElse (rule (x .near) (x .far)) n)) j absent ≡ atQubit (x .far) j). rw e (L .far-entry j (rw e at p)))
+          (set-cases (x .far .node) q j (orElse (rule (x .near) (x .far)) n) absent)
 
-      link-one : Linking (linkOne nearAll n q x)
+      link-one : Linking (linkOne rule n q x)
       link-one = record {
         near-nodes = length-set (x .near .node) q n ∙ L .near-nodes;
         near-blocks = length-set taken n true ∙ taken-long;
@@ -460,18 +472,18 @@ module _ (n : ℕ) (op : ℕ → Bool) (near far : End) where
       }
 
       -- "v joins the last block"
-      one-marked : getD (linkOne nearAll n q x .near .block) n false ≡ true
+      one-marked : getD (linkOne rule n q x .near .block) n false ≡ true
       one-marked = getD-set-same taken n true false (rw taken-long low)
 
-    link-each : (qs : List ℕ) (x : Linked) → Linking x → Linking (linkQubits nearAll qs n x)
+    link-each : (qs : List ℕ) (x : Linked) → Linking x → Linking (linkQubits rule qs n x)
     unfolding linkQubits
     link-each [] x L = L
-    link-each (q ∷ qs) x L = link-each qs (linkOne nearAll n q x) (link-one x L q)
+    link-each (q ∷ qs) x L = link-each qs (linkOne rule n q x) (link-one x L q)
 
-    each-marked : (qs : List ℕ) (x : Linked) → Linking x → getD (x .near .block) n false ≡ true → getD (linkQubits nearAll qs n x .near .block) n false ≡ true
+    each-marked : (qs : List ℕ) (x : Linked) → Linking x → getD (x .near .block) n false ≡ true → getD (linkQubits rule qs n x .near .block) n false ≡ true
     unfolding linkQubits
     each-marked [] x L m = m
-    each-marked (q ∷ qs) x L m = each-marked qs (linkOne nearAll n q x) (link-one x L q) (one-marked x L q)
+    each-marked (q ∷ qs) x L m = each-marked qs (linkOne rule n q x) (link-one x L q) (one-marked x L q)
 
     -- "v joins the first block if nothing points to it": it has a node afterwards
     module _ (x : Linked) (L : Linking x) (below : (w : ℕ) → member w (x .others) ≡ true → w < n)
@@ -524,20 +536,20 @@ module _ (n : ℕ) (op : ℕ → Bool) (near far : End) where
     abbrev start : Linked
     start = record { near = near; far = far; others = [] }
 
-    joins-each : (qs : List ℕ) → ((w : ℕ) → member w (linkQubits nearAll qs n start .others) ≡ true → w < n) → Joins n op true near far (joinFar n (linkQubits nearAll qs n start))
+    joins-each : (qs : List ℕ) → ((w : ℕ) → member w (linkQubits rule qs n start .others) ≡ true → w < n) → Joins n op true near far (joinFar n (linkQubits rule qs n start))
     unfolding linkQubits
     joins-each [] below = join-far start begin below (T .entry-some) (T .all-some)
     joins-each (q ∷ qs) below =
-        let mark = each-marked qs (linkOne nearAll n q start) (link-one start begin q) (one-marked start begin q) in
-        join-far (linkQubits nearAll (q ∷ qs) n start) (link-each (q ∷ qs) start begin) below (λ j p. (n, mark)) (λ p. (n, mark))
+        let mark = each-marked qs (linkOne rule n q start) (link-one start begin q) (one-marked start begin q) in
+        join-far (linkQubits rule (q ∷ qs) n start) (link-each (q ∷ qs) start begin) below (λ j p. (n, mark)) (λ p. (n, mark))
 
-    joins-set : (m : ℕ) → Joins n op true near far (linkSet nearAll m n near far)
+    joins-set : (m : ℕ) → Joins n op true near far (linkSet rule m n near far)
     unfolding linkSet
     joins-set m = joins-each (qubits m) (λ w h. ltb-true w n (all-member (λ u. ltb u n) w _
-        (others-below (Set m) nearAll n near far (λ q p. S .entry q p .below) (λ p. S .all p .below)) h))
+        (others-below (Set m) rule n near far (λ q p. S .entry q p .below) (λ p. S .all p .below)) h))
 
     -- the rule of every record: a node that is linked is an operation
-    pub joins-by : (k : InvolvedQubits) (new : Bool) → (eqb (formOf k) 0 ≡ false → new ≡ true) → Joins n op new near far (linkBy k nearAll n near far)
+    pub joins-by : (k : InvolvedQubits) (new : Bool) → (eqb (formOf k) 0 ≡ false → new ≡ true) → Joins n op new near far (linkBy k rule n near far)
     joins-by None new h = joins-none n op new near far Out In S T
     joins-by All new h = subst (λ (b : Bool). Joins n op b near far (linkAll n near far)) (sym (h refl)) (joins-all n op near far Out In S T low)
-    joins-by (Set m) new h = subst (λ (b : Bool). Joins n op b near far (linkSet nearAll m n near far)) (sym (h refl)) (joins-set m)
+    joins-by (Set m) new h = subst (λ (b : Bool). Joins n op b near far (linkSet rule m n near far)) (sym (h refl)) (joins-set m)

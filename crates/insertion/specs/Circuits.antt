@@ -12,8 +12,9 @@ use Rattle.graph.specs.Dag.{Node, nodeAt}
 use Rattle.queries.specs.Conversion.{circuitOf}
 use Rattle.queries.specs.Circuits.{CircuitWhole, EdgesRespected}
 use Rattle.file.specs.declared.Outcome.the-variants.{Done}
-use Rattle.insertion.specs.Load.{load}
-use Rattle.insertion.specs.Calls.{final}
+use Rattle.links.specs.declared.LoadingRule.{LoadingRule}
+use Rattle.insertion.specs.Load.{loadBy}
+use Rattle.insertion.specs.Calls.{Call, built}
 use Rattle.insertion.specs.Conversion.{insertionOrder, fromCircuit}
 
 -- each node once, and in the order of every edge within kind 0 and within kinds 1 to 5
@@ -23,8 +24,8 @@ pub record WholeInOrder (g : CircuitDag) : Type 0 where
 
 -- the circuit of every graph that is built by a list of insertions, a load or a conversion, with no condition on the bytes
 pub record CircuitsBuilt : Type 0 where
-  pub inserted : (l : List (List ℕ)) → WholeInOrder (final l)
-  pub loaded : (s : List ℕ) → WholeInOrder (load s .graph)
+  pub inserted : (l : List Call) → WholeInOrder (built l)
+  pub loaded : (rule : LoadingRule) (s : List ℕ) → WholeInOrder (loadBy rule s .graph)
   pub converted : (s : List ℕ) → WholeInOrder (fromCircuit s .graph)
 
 -- the record whose node has the number v

@@ -11,6 +11,7 @@ use Rattle.file.specs.declared.FileCheck.the-variants.{Sound, Refused as BadFil
 use Rattle.graph.specs.Dag.{empty}
 use Rattle.queries.specs.Conversion.{definitionsFirst}
 use Rattle.insertion.specs.declared.Loaded.{Loaded}
+use Rattle.links.specs.Links.{nearAll}
 use Rattle.insertion.specs.Load.{notLoaded, insertRecords}
 
 -- "a front record is refused 4. Here 4 is checked for all records in file order before the first insertion"
@@ -23,7 +24,7 @@ insertionOrder s = definitionsFirst (λ i. kind (recordAt s i)) (upTo (countOf s
 
 -- the records in that order, "all at the back", given the numbers of the broken ones
 abbrev pub convert : List ℕ → List ℕ → Loaded
-convert s [] = insertRecords s empty (insertionOrder s)
+convert s [] = insertRecords nearAll s empty (insertionOrder s)
 convert s (i ∷ l) = notLoaded (BadRecord i)
 
 -- the records of a file whose header and pairs keep their rules

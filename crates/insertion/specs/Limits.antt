@@ -12,7 +12,9 @@ use Rattle.insertion.specs.declared.Answer.{Answer}
 use Rattle.insertion.specs.declared.Answer.the-variants.{Node, Refused}
 use Rattle.insertion.specs.declared.Inserted.{Inserted}
 use Rattle.graph.specs.Dag.{node, size}
-use Rattle.links.specs.Links.{FarRule, nearAll}
+use Rattle.links.specs.Links.{FarRule, ruleOf}
+use Rattle.links.specs.declared.LoadingRule.{LoadingRule}
+use Rattle.links.specs.declared.LoadingRule.the-variants.{NearAll}
 use Rattle.registers.specs.Registers.{mapsPass}
 use Rattle.insertion.specs.Insertion.{facing, linked, registered, grown}
 use Rattle.graph.specs.Soundness.{sound}
@@ -43,10 +45,10 @@ insertAs rule i g s =
     (cond (registersPass g s) (refused (TooManyRegisters i) g)
     (record { answer = Node (node (size g)); graph = grown rule g s }))))
 
--- one call: "graph isn't sound" comes first; "record (0 on insertion)"
-abbrev pub insertWith : FarRule → CircuitDag → List ℕ → Inserted
-insertWith rule g s = cond (sound g) (insertAs rule 0 g s) (refused Unsound g)
+-- one call, by either rule: "graph isn't sound" comes first; "record (0 on insertion)"
+unfoldable pub insertBy : LoadingRule → CircuitDag → List ℕ → Inserted
+insertBy rule g s = cond (sound g) (insertAs (ruleOf rule) 0 g s) (refused Unsound g)
 
 -- document 01's insertion
-unfoldable pub insertOf : CircuitDag → List ℕ → Inserted
-insertOf g s = insertWith nearAll g s
+abbrev pub insertOf : CircuitDag → List ℕ → Inserted
+insertOf g s = insertBy NearAll g s

@@ -11,7 +11,9 @@ use Rattle.insertion.specs.declared.Answer.the-variants.{Node, Refused a
 use Rattle.file.specs.declared.Outcome.the-variants.{Done, Refused}
 use Rattle.insertion.specs.declared.Loaded.{Loaded}
 use Rattle.graph.specs.Dag.{empty}
-use Rattle.links.specs.Links.{nearAll}
+use Rattle.links.specs.Links.{FarRule, ruleOf}
+use Rattle.links.specs.declared.LoadingRule.{LoadingRule}
+use Rattle.links.specs.declared.LoadingRule.the-variants.{NearAll}
 use Rattle.insertion.specs.Limits.{insertAs}
 
 -- "A refused load gives the empty graph."
@@ -19,16 +21,20 @@ abbrev pub notLoaded : Refusal → Loaded
 notLoaded r = record { answer = Refused r; graph = empty }
 
 -- the file's records with these numbers, one after the other; the refusal of a record gives its number in the file
-unfoldable pub insertRecords : List ℕ → CircuitDag → List ℕ → Loaded
-insertRecords s g [] = record { answer = Done; graph = g }
-insertRecords s g (i ∷ l) = let x = insertAs nearAll i g (recordAt s i) in
-    elim (x .answer) [ Node v ↦ insertRecords s (x .graph) l | NotInserted r ↦ notLoaded r ]
+unfoldable pub insertRecords : FarRule → List ℕ → CircuitDag → List ℕ → Loaded
+insertRecords rule s g [] = record { answer = Done; graph = g }
+insertRecords rule s g (i ∷ l) = let x = insertAs rule i g (recordAt s i) in
+    elim (x .answer) [ Node v ↦ insertRecords rule s (x .graph) l | NotInserted r ↦ notLoaded r ]
 
 -- the records of a file whose header and pairs keep their rules
-abbrev pub loadChecked : FileCheck → List ℕ → Loaded
-loadChecked (BadFile r) s = notLoaded r
-loadChecked Sound s = insertRecords s empty (upTo (countOf s))
+abbrev pub loadChecked : FarRule → FileCheck → List ℕ → Loaded
+loadChecked rule (BadFile r) s = notLoaded r
+loadChecked rule Sound s = insertRecords rule s empty (upTo (countOf s))
 
 -- "Order: .. 2 once two bytes are there, 1, 3, then per record 4 to 7"
-unfoldable pub load : List ℕ → Loaded
-load s = loadChecked (checkFile s) s
+unfoldable pub loadBy : LoadingRule → List ℕ → Loaded
+loadBy rule s = loadChecked (ruleOf rule) (checkFile s) s
+
+-- document 01's load
+abbrev pub load : List ℕ → Loaded
+load s = loadBy NearAll s

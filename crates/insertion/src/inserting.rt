@@ -2,8 +2,8 @@
 ghost use mathlib.Core.Path.{_≡_};
 ghost use mathlib.Core.Bool.{true};
 ghost use Rattle.graph.specs.Soundness.{sound};
-ghost use Rattle.links.specs.Links.{nearAll};
-ghost use Rattle.insertion.specs.Limits.{refused, insertAs, insertOf};
+ghost use Rattle.links.specs.Links.{ruleOf};
+ghost use Rattle.insertion.specs.Limits.{refused, insertAs, insertBy, insertOf};
 ghost use Rattle.insertion.specs.Parts.{nodeLists};
 use crate::Answer;
 use crate::Inserted;
@@ -15,6 +15,7 @@ use file::Parsed;
 use file::Refusal;
 use graph::CircuitDag;
 use graph::NodeIndex;
+use links::LoadingRule;
 
 // A refusal leaves the graph as it was.
 fn not_inserted(r: Refusal, g: CircuitDag) -> Inserted
@@ -41,9 +42,9 @@ fn node_lists(g: CircuitDag) -> NodeLists
 }
 
 // The record on a sound graph: 4, 5, 6, 7.
-fn insert_sound(g: CircuitDag, part: &[u8]) -> Inserted
+fn insert_sound(rule: LoadingRule, g: CircuitDag, part: &[u8]) -> Inserted
     requires { ⌜ sound g ≡ true ⌝ }
-    ensures { λ r. ⌜ r ≡ insertAs nearAll 0 g (now (part .entry)) ⌝ }
+    ensures { λ r. ⌜ r ≡ insertAs (ruleOf rule) 0 g (now (part .entry)) ⌝ }
 {
     let parsed = file::parse_record(part);
     let Parsed::Record(s) = parsed else {
@@ -53,7 +54,7 @@ fn insert_sound(g: CircuitDag, part: &[u8]) -> Inserted
     let v = NodeIndex(n as u16);
     let front = s.front;
     let qubits = s.qubits;
-    let x = links::link_node(front, qubits, v, g.edges, g.first, g.last);
+    let x = links::link_node(rule, front, qubits, v, g.edges, g.first, g.last);
     let answer = x.answer;
     if let Outcome::Refused(cause) = answer {
         return not_inserted(cause, g);
@@ -70,11 +71,18 @@ fn insert_sound(g: CircuitDag, part: &[u8]) -> Inserted
 }
 
 // Any bytes as a record on any graph: 11, then 4 to 7. A refusal returns the graph that came in.
+pub fn insert_by(rule: LoadingRule, g: CircuitDag, part: &[u8]) -> Inserted
+    ensures { λ r. ⌜ r ≡ insertBy rule g (now (part .entry)) ⌝ }
+{
+    if graph::is_sound(g) {
+        return insert_sound(rule, g, part);
+    }
+    not_inserted(Refusal::Unsound, g)
+}
+
+// The same by document 01's rule.
 pub fn insert(g: CircuitDag, part: &[u8]) -> Inserted
     ensures { λ r. ⌜ r ≡ insertOf g (now (part .entry)) ⌝ }
 {
-    if graph::is_sound(g) {
-        return insert_sound(g, part);
-    }
-    not_inserted(Refusal::Unsound, g)
+    insert_by(LoadingRule::NearAll, g, part)
 }

@@ -9,7 +9,8 @@ ghost use Rattle.file.specs.Lists.{allOf, upTo};
 ghost use Rattle.file.specs.Pairs.{countOf, checkFile};
 ghost use Rattle.file.specs.declared.FileCheck.the-variants.{Sound};
 ghost use Rattle.graph.specs.Dag.{empty};
-ghost use Rattle.insertion.specs.Load.{notLoaded, insertRecords};
+ghost use Rattle.links.specs.Links.{ruleOf};
+ghost use Rattle.insertion.specs.Load.{notLoaded, insertRecords, loadBy};
 ghost use Rattle.insertion.specs.Load.{load as loadOf};
 use crate::Loaded;
 use crate::assembling::assemble;
@@ -18,6 +19,7 @@ use file::FileCheck;
 use file::Outcome;
 use file::Refusal;
 use graph::CircuitDag;
+use links::LoadingRule;
 
 // A refused load gives the empty graph.
 pub(crate) fn not_loaded(r: Refusal) -> Loaded
@@ -44,12 +46,12 @@ pub(crate) fn file_order() -> [u16; 512]
 
 // The records with these numbers of a file that passed the check, one after the other, on the empty graph. A refusal by
 // the register maps comes before one by the links: the maps are made of the records before it.
-pub(crate) fn insert_in_order(file: &[u8], order: &[u16]) -> Loaded
+pub(crate) fn insert_in_order(rule: LoadingRule, file: &[u8], order: &[u16]) -> Loaded
     requires { ⌜ (checkFile (now file) ≡ Sound) × (allOf (λ i. ltb i (countOf (now file))) (now order) ≡ true)
         × (length (now order) ≤ 512) ⌝ }
-    ensures { λ r. ⌜ r ≡ insertRecords (now (file .entry)) empty (now (order .entry)) ⌝ }
+    ensures { λ r. ⌜ r ≡ insertRecords (ruleOf rule) (now (file .entry)) empty (now (order .entry)) ⌝ }
 {
-    let x = registers::register_records(file, order);
+    let x = registers::register_records(rule, file, order);
     let registered = x.registered;
     let entered = registered.answer;
     if let Outcome::Refused(cause) = entered {
@@ -67,8 +69,8 @@ pub(crate) fn insert_in_order(file: &[u8], order: &[u16]) -> Loaded
 }
 
 // A circuit file, or the first refusal: 2, 1, 3, then per record 4, 6, 7.
-pub fn load(file: &[u8]) -> Loaded
-    ensures { λ r. ⌜ r ≡ loadOf (now (file .entry)) ⌝ }
+pub fn load_by(rule: LoadingRule, file: &[u8]) -> Loaded
+    ensures { λ r. ⌜ r ≡ loadBy rule (now (file .entry)) ⌝ }
 {
     let found = file::check_file(file);
     match found {
@@ -77,7 +79,14 @@ pub fn load(file: &[u8]) -> Loaded
             let start: usize = 0;
             let n = file::record_count(file);
             let order = file_order();
-            insert_in_order(file, &order[start..n])
+            insert_in_order(rule, file, &order[start..n])
         }
     }
+}
+
+// The same by document 01's rule.
+pub fn load(file: &[u8]) -> Loaded
+    ensures { λ r. ⌜ r ≡ loadOf (now (file .entry)) ⌝ }
+{
+    load_by(LoadingRule::NearAll, file)
 }

@@ -16,11 +16,11 @@ use Rattle.file.specs.declared.InvolvedQubits.the-variants.{None}
 use Rattle.graph.specs.declared.NodeIndex.{NodeIndex}
 use Rattle.graph.specs.declared.End.{End}
 use Rattle.file.proofs.BoolLaws.{bool-cases, both-true, clash-bool}
-use Rattle.links.specs.Links.{Linked, nearAll, source, qubits, linkQubits, linkSet, linkAll, linkBy}
-use Rattle.links.specs.Ends.{EndState, several, Only, endWith, endOf, EndFits, SetLinked, AllLinked, StateGrown, nearState, farState, Joined}
+use Rattle.links.specs.Links.{Linked, FarRule, source, qubits, linkQubits, linkSet, linkAll, linkBy}
+use Rattle.links.specs.Ends.{EndState, several, Only, endWith, endOf, EndFits, Gives, SetLinked, AllLinked, StateGrown, nearState, farState, Joined}
 use Rattle.links.specs.Ends.{JoinedBy, JoinedEndsBy}
 use Rattle.links.proofs.QubitLaws.{all-first, all-rest, qubits-none, qubits-next, qubits-below}
-use Rattle.links.proofs.LinkLaws.{none-first, none-rest, linkOne}
+use Rattle.links.proofs.LinkLaws.{none-first, none-rest, linkOne, NamesAll}
 use Rattle.links.proofs.LinkLoops.{Within, or-within, set-within, becomes}
 
 -- ---- maps
@@ -52,6 +52,14 @@ or-small v a h =
     (λ (e : present a ≡ true). rw e (h e))
     (λ (e : present a ≡ false). rw e (omega arith))
     (bool-cases (present a))
+
+-- what the rule names, where the ends' all-qubit nodes are below n
+rule-within : (rule : FarRule) → NamesAll rule → (n : ℕ) (near far : End) → Within n (near .all .0) → Within n (far .all .0) → Within n (rule near far)
+rule-within rule names n near far hn hf p =
+    ⊎-elim
+    (λ (e : rule near far ≡ near .all .0). rw e (hn (rw e at p)))
+    (λ (e : rule near far ≡ far .all .0). rw e (hf (rw e at p)))
+    (names near far p)
 
 -- the map of an end
 pub end-map : (n : ℕ) (node : List ℕ) (s : EndState) (block : List Bool) → EndFits n node s block → MapFits n (s .top) node
@@ -125,33 +133,35 @@ module _ (v t tn tf : ℕ) (small : v < 512) (low : t ≤ 64) (hn : t ≤ tn) (h
     pub near : MapFits (v + 1) tn (x .near .node)
     pub far : MapFits (v + 1) tf (x .far .node)
     pub all : Within (v + 1) (x .near .all .0)
+    pub far-all : Within (v + 1) (x .far .all .0)
     pub block : length (x .near .block) ≡ 512
 
-  pub link-fits : (qs : List ℕ) (x : Linked) → allOf (λ q. ltb q t) qs ≡ true → LinkFits x → LinkFits (linkQubits nearAll qs v x)
+  pub link-fits : (rule : FarRule) → NamesAll rule → (qs : List ℕ) (x : Linked) → allOf (λ q. ltb q t) qs ≡ true → LinkFits x → LinkFits (linkQubits rule qs v x)
   unfolding linkQubits
-  link-fits [] x h f = f
-  link-fits (q ∷ qs) x h f =
+  link-fits rule names [] x h f = f
+  link-fits rule names (q ∷ qs) x h f =
       let b : q < t = ltb-true q t (all-first (λ j. ltb j t) q qs h) in
-      link-fits qs (linkOne nearAll v q x) (all-rest (λ j. ltb j t) q qs h) (record {
+      link-fits rule names qs (linkOne rule v q x) (all-rest (λ j. ltb j t) q qs h) (record {
         near = map-set (v + 1) tn (x .near .node) q v (omega arith) ln (omega arith) (f .near);
         far = ⊎-elim
             (λ (e : present (getD (x .near .node) q absent) ≡ true). rw e (f .far))
             (λ (e : present (getD (x .near .node) q absent) ≡ false).
-            rw e (map-set (v + 1) tf (x .far .node) q (orElse (x .near .all .0) v) (omega arith) lf (or-small v (x .near .all .0) (f .all)) (f .far)))
+            rw e (map-set (v + 1) tf (x .far .node) q (orElse (rule (x .near) (x .far)) v) (omega arith) lf (or-small v (rule (x .near) (x .far)) (rule-within rule names (v + 1) (x .near) (x .far) (f .all) (f .far-all))) (f .far)))
             (bool-cases (present (getD (x .near .node) q absent)));
         all = f .all;
+        far-all = f .far-all;
         block = size-out (present (source (x .near) q)) (x .near .block) (source (x .near) q) v ∙ f .block;
       })
 
 -- "v joins the last block": after one qubit or more
-pub link-block : (qs : List ℕ) (v : ℕ) (x : Linked) → v < 512 → length (x .near .block) ≡ 512
-    → anyOf (λ b. b) (linkQubits nearAll qs v x .near .block) ≡ cond (isEmpty qs) (anyOf (λ b. b) (x .near .block)) true
+pub link-block : (rule : FarRule) (qs : List ℕ) (v : ℕ) (x : Linked) → v < 512 → length (x .near .block) ≡ 512
+    → anyOf (λ b. b) (linkQubits rule qs v x .near .block) ≡ cond (isEmpty qs) (anyOf (λ b. b) (x .near .block)) true
 unfolding linkQubits
-link-block [] v x small h = refl
-link-block (q ∷ qs) v x small h =
+link-block rule [] v x small h = refl
+link-block rule (q ∷ qs) v x small h =
     let n = size-out (present (source (x .near) q)) (x .near .block) (source (x .near) q) v ∙ h in
     let l : v < length (takenOut (x .near) q) = let z = rw length-set at n in omega (arith, z) in
-    link-block qs v (linkOne nearAll v q x) small n ∙ after (isEmpty qs) (any-set (takenOut (x .near) q) v l)
+    link-block rule qs v (linkOne rule v q x) small n ∙ after (isEmpty qs) (any-set (takenOut (x .near) q) v l)
   where
     after : {a : Bool} (b : Bool) → a ≡ true → cond b a true ≡ true
     after true e = e
@@ -166,36 +176,37 @@ empty-qubits : (m : ℕ) → m < 2 ^ 64 → isEmpty (qubits m) ≡ eqb m 0
 empty-qubits zero h = rw (qubits-none 64 0) refl
 empty-qubits (suc m) h = rw (qubits-next (suc m) (omega arith) h) (sym (ne-eqb (suc m) 0 (omega arith)))
 
-none-linked : (m v : ℕ) (x : Linked) → m ≡ 0 → linkQubits nearAll (qubits m) v x ≡ x
+none-linked : (rule : FarRule) (m v : ℕ) (x : Linked) → m ≡ 0 → linkQubits rule (qubits m) v x ≡ x
 unfolding linkQubits
-none-linked m v x e = rw (e, qubits-none 64 0) refl
+none-linked rule m v x e = rw (e, qubits-none 64 0) refl
 
 -- v joined the two ends as a Set
-module _ (mask v : ℕ) (bits : mask < 2 ^ 64) (small : v < 512) (near far : EndState) (nearNode farNode : List ℕ) (nearBlock farBlock : List Bool)
+module _ (rule : FarRule) (names : NamesAll rule) (mask v : ℕ) (bits : mask < 2 ^ 64) (small : v < 512) (near far : EndState) (nearNode farNode : List ℕ) (nearBlock farBlock : List Bool)
     (near-fits : EndFits v nearNode near nearBlock) (far-fits : EndFits v farNode far farBlock)
     (nearNode′ farNode′ : List ℕ) (nearBlock′ farBlock′ : List Bool) (others : List ℕ) (k t : ℕ) (n f : EndState)
-    (set-linked : SetLinked mask v (near .all) nearNode farNode nearBlock nearNode′ farNode′ nearBlock′ others k)
+    (fresh : ℕ) (gives : Gives rule v (near .all) (far .all) fresh) (set-linked : SetLinked mask v (near .all) fresh nearNode farNode nearBlock nearNode′ farNode′ nearBlock′ others k)
     (below : mask < 2 ^ t) (low : t ≤ 64) (block : farBlock′ ≡ cond (eqb k 0) (set farBlock v true) farBlock)
     (near-grown : StateGrown near t (not (eqb mask 0)) n) (far-grown : StateGrown far t (eqb k 0) f) where
-  linked : linkQubits nearAll (qubits mask) v (record { near = endOf nearNode near nearBlock; far = endOf farNode far farBlock; others = [] })
+  linked : linkQubits rule (qubits mask) v (record { near = endOf nearNode near nearBlock; far = endOf farNode far farBlock; others = [] })
       ≡ record { near = endWith nearNode′ (near .all) nearBlock′; far = endWith farNode′ (far .all) farBlock; others = take k others }
-  linked = set-linked .is (far .all) farBlock
+  linked = set-linked .is rule (far .all) farBlock gives
 
   fits : LinkFits v t (n .top) (f .top) small low (near-grown .new) (far-grown .new) (near-grown .low) (far-grown .low)
       (record { near = endWith nearNode′ (near .all) nearBlock′; far = endWith farNode′ (far .all) farBlock; others = take k others })
-  fits = rw linked at (link-fits v t (n .top) (f .top) small low (near-grown .new) (far-grown .new) (near-grown .low) (far-grown .low) (qubits mask)
+  fits = rw linked at (link-fits v t (n .top) (f .top) small low (near-grown .new) (far-grown .new) (near-grown .low) (far-grown .low) rule names (qubits mask)
       (record { near = endOf nearNode near nearBlock; far = endOf farNode far farBlock; others = [] })
       (rw zero-add at (qubits-below 64 0 mask t below))
       (record {
         near = map-more v (v + 1) (near .top) (n .top) nearNode (omega arith) (near-grown .old) (end-map v nearNode near nearBlock near-fits);
         far = map-more v (v + 1) (far .top) (f .top) farNode (omega arith) (far-grown .old) (end-map v farNode far farBlock far-fits);
         all = within-more v (v + 1) (near .all .0) (omega arith) (near-fits .all);
+        far-all = within-more v (v + 1) (far .all .0) (omega arith) (far-fits .all);
         block = near-fits .blocks;
       }))
 
   near-some : present (n .members) ≡ anyOf (λ b. b) nearBlock′
   near-some =
-      let b = link-block (qubits mask) v (record { near = endOf nearNode near nearBlock; far = endOf farNode far farBlock; others = [] }) small (near-fits .blocks) in
+      let b = link-block rule (qubits mask) v (record { near = endOf nearNode near nearBlock; far = endOf farNode far farBlock; others = [] }) small (near-fits .blocks) in
       rw (near-grown .members, some-grown, near-fits .some) (turned _ (eqb mask 0) ∙ sym (rw (linked, empty-qubits mask bits) at b))
     where
       turned : (a b : Bool) → cond (not b) true a ≡ cond b a true
@@ -203,9 +214,9 @@ module _ (mask v : ℕ) (bits : mask < 2 ^ 64) (small : v < 512) (near far : End
       turned a false = refl
 
   near-stays : not (eqb mask 0) ≡ false → nearBlock′ ≡ nearBlock
-  near-stays e = ap (λ (x : Linked). x .near .block) (sym linked ∙ none-linked mask v _ (eqb-true mask 0 (not-false _ e)))
+  near-stays e = ap (λ (x : Linked). x .near .block) (sym linked ∙ none-linked rule mask v _ (eqb-true mask 0 (not-false _ e)))
 
-  pub joined-set : JoinedBy (linkSet nearAll mask v (endOf nearNode near nearBlock) (endOf farNode far farBlock)) (v + 1)
+  pub joined-set : JoinedBy (linkSet rule mask v (endOf nearNode near nearBlock) (endOf farNode far farBlock)) (v + 1)
       (record { count = k; near = n; far = f }) nearNode′ farNode′ nearBlock′ farBlock′ others
   unfolding linkSet
   joined-set =
@@ -363,11 +374,11 @@ module _ (v : NodeIndex) (small : v .0 < 512) (near far : EndState) (nearNode fa
 -- ---- none, and the mirror
 
 -- "get no edge and join nothing"
-pub joined-nothing : (v : ℕ) (near far : EndState) (nearNode farNode : List ℕ) (nearBlock farBlock : List Bool) (others : List ℕ)
+pub joined-nothing : (rule : FarRule) (v : ℕ) (near far : EndState) (nearNode farNode : List ℕ) (nearBlock farBlock : List Bool) (others : List ℕ)
     → EndFits v nearNode near nearBlock → EndFits v farNode far farBlock → length others ≡ 64
-    → JoinedBy (linkBy None nearAll v (endOf nearNode near nearBlock) (endOf farNode far farBlock)) (v + 1)
+    → JoinedBy (linkBy None rule v (endOf nearNode near nearBlock) (endOf farNode far farBlock)) (v + 1)
     (record { count = 0; near = near; far = far }) nearNode farNode nearBlock farBlock others
-joined-nothing v near far nearNode farNode nearBlock farBlock others hn hf size = record {
+joined-nothing rule v near far nearNode farNode nearBlock farBlock others hn hf size = record {
   near = refl;
   far = refl;
   joined = refl;

@@ -2,7 +2,7 @@
 use mathlib.Core.Path.{_≡_, refl, sym, _∙_}
 use mathlib.Core.Bool.{Bool, true, false, cond, _&&_}
 use mathlib.Core.List.{List, [], _∷_, _++_}
-use mathlib.Core.Logic.{_⊎_, ⊎-elim}
+use mathlib.Core.Logic.{_⊎_, inl, inr, ⊎-elim}
 use Prim.Native.Nat.{ℕ, zero, suc, _+_, _/_, _%_, _<_, _≤_}
 use native.Mathlib.Omega.{arith}
 use lib.Dec.{eqb, ltb}
@@ -18,7 +18,9 @@ use Rattle.graph.specs.Soundness.{ascends}
 use Rattle.file.proofs.BoolLaws.{bool-cases, clash-bool, both-true}
 use Rattle.graph.proofs.ListLaws.{distinct-first, distinct-rest, distinct-more}
 use Rattle.links.specs.Links.{Linked, FarRule, nearAll, source, nearAfter, farAfter, noQubit, qubits, linkQubits, linkSet, mapped, linkAll, linkBy}
-use Rattle.links.specs.Links.{linkAt, qubitsFrom, edgeBound}
+use Rattle.links.specs.Links.{linkAt, ruleOf, qubitsFrom, edgeBound}
+use Rattle.links.specs.declared.LoadingRule.{LoadingRule}
+use Rattle.links.specs.declared.LoadingRule.the-variants.{NearAll, FarAll}
 use Rattle.links.proofs.QubitLaws.{all-more, all-first, all-rest, qubits-ascend}
 
 -- ---- tests and lists
@@ -236,85 +238,101 @@ others-below (Set m) rule v near far h a =
 near-other : (near : End) (r v q : ℕ) → (q ≡ r → ⊥) → atQubit (nearAfter near r v) q ≡ atQubit near q
 near-other near r v q apart = getD-set-other (near .node) r q v absent apart
 
-far-other : (near far : End) (r v q : ℕ) → (q ≡ r → ⊥) → atQubit (farAfter nearAll near far r v) q ≡ atQubit far q
-far-other near far r v q apart =
+far-other : (rule : FarRule) (near far : End) (r v q : ℕ) → (q ≡ r → ⊥) → atQubit (farAfter rule near far r v) q ≡ atQubit far q
+far-other rule near far r v q apart =
     ⊎-elim
     (λ (e : present (atQubit near r) ≡ true). rw e refl)
-    (λ (e : present (atQubit near r) ≡ false). rw e (getD-set-other (far .node) r q (orElse (near .all .0) v) absent apart))
+    (λ (e : present (atQubit near r) ≡ false). rw e (getD-set-other (far .node) r q (orElse (rule near far) v) absent apart))
     (bool-cases (present (atQubit near r)))
 
-far-length : (near far : End) (r v : ℕ) → length (farAfter nearAll near far r v .node) ≡ length (far .node)
-far-length near far r v =
+far-length : (rule : FarRule) (near far : End) (r v : ℕ) → length (farAfter rule near far r v .node) ≡ length (far .node)
+far-length rule near far r v =
     ⊎-elim
     (λ (e : present (atQubit near r) ≡ true). rw e refl)
     (λ (e : present (atQubit near r) ≡ false). rw (e, length-set) refl)
     (bool-cases (present (atQubit near r)))
 
 -- "If q was new, first[q] becomes lastAll, or v if that is absent." Otherwise it stays
-abbrev pub farEntry : End → End → ℕ → ℕ → ℕ
-farEntry near far v q = cond (present (atQubit near q)) (atQubit far q) (orElse (near .all .0) v)
+abbrev pub farEntry : FarRule → End → End → ℕ → ℕ → ℕ
+farEntry rule near far v q = cond (present (atQubit near q)) (atQubit far q) (orElse (rule near far) v)
 
-far-here : (near far : End) (v q : ℕ) → q < length (far .node) → atQubit (farAfter nearAll near far q v) q ≡ farEntry near far v q
-far-here near far v q h =
+far-here : (rule : FarRule) (near far : End) (v q : ℕ) → q < length (far .node) → atQubit (farAfter rule near far q v) q ≡ farEntry rule near far v q
+far-here rule near far v q h =
     ⊎-elim
     (λ (e : present (atQubit near q) ≡ true). rw e refl)
-    (λ (e : present (atQubit near q) ≡ false). rw e (getD-set-same (far .node) q (orElse (near .all .0) v) absent h))
+    (λ (e : present (atQubit near q) ≡ false). rw e (getD-set-same (far .node) q (orElse (rule near far) v) absent h))
     (bool-cases (present (atQubit near q)))
 
-module _ (v q : ℕ) where
+-- where the rule names a node, one of the ends names that node as its all-qubit node
+abbrev pub NamesAll : FarRule → Type 0
+NamesAll rule = (near far : End) → present (rule near far) ≡ true → (rule near far ≡ near .all .0) ⊎ (rule near far ≡ far .all .0)
+
+pub names-all : (rule : LoadingRule) → NamesAll (ruleOf rule)
+names-all NearAll near far p = inl refl
+names-all FarAll near far p = inr refl
+
+-- what the rule names is the same after one qubit
+abbrev pub Steady : FarRule → Type 0
+Steady rule = (near far : End) (v q : ℕ) → rule (nearAfter near q v) (farAfter rule near far q v) ≡ rule near far
+
+pub steady-rule : (rule : LoadingRule) → Steady (ruleOf rule)
+steady-rule NearAll near far v q = refl
+steady-rule FarAll near far v q = refl
+
+module _ (rule : FarRule) (v q : ℕ) where
   -- a qubit that is not among them keeps its entries
   link-outside : (qs : List ℕ) (x : Linked) → member q qs ≡ false
-      → (atQubit (linkQubits nearAll qs v x .near) q ≡ atQubit (x .near) q) × (atQubit (linkQubits nearAll qs v x .far) q ≡ atQubit (x .far) q)
+      → (atQubit (linkQubits rule qs v x .near) q ≡ atQubit (x .near) q) × (atQubit (linkQubits rule qs v x .far) q ≡ atQubit (x .far) q)
   unfolding linkQubits
   link-outside [] x m = (refl, refl)
   link-outside (r ∷ qs) x m =
       let apart : q ≡ r → ⊥ = eqb-false q r (none-first (eqb q) r qs m) in
-      let i = link-outside qs (linkOne nearAll v r x) (none-rest (eqb q) r qs m) in
-      (i .0 ∙ near-other (x .near) r v q apart, i .1 ∙ far-other (x .near) (x .far) r v q apart)
+      let i = link-outside qs (linkOne rule v r x) (none-rest (eqb q) r qs m) in
+      (i .0 ∙ near-other (x .near) r v q apart, i .1 ∙ far-other rule (x .near) (x .far) r v q apart)
 
   -- one that is among them gets v in near, and its entry in far
-  link-inside : (qs : List ℕ) (x : Linked) → distinct eqb qs ≡ true → member q qs ≡ true → q < length (x .near .node) → q < length (x .far .node)
-      → (atQubit (linkQubits nearAll qs v x .near) q ≡ v) × (atQubit (linkQubits nearAll qs v x .far) q ≡ farEntry (x .near) (x .far) v q)
+  link-inside : Steady rule → (qs : List ℕ) (x : Linked) → distinct eqb qs ≡ true → member q qs ≡ true → q < length (x .near .node) → q < length (x .far .node)
+      → (atQubit (linkQubits rule qs v x .near) q ≡ v) × (atQubit (linkQubits rule qs v x .far) q ≡ farEntry rule (x .near) (x .far) v q)
   unfolding linkQubits anyOf
-  link-inside [] x d m hn hf = absurd (clash-bool m refl)
-  link-inside (r ∷ qs) x d m hn hf =
+  link-inside steady [] x d m hn hf = absurd (clash-bool m refl)
+  link-inside steady (r ∷ qs) x d m hn hf =
       ⊎-elim
       (λ (e : eqb q r ≡ true).
       let s : q ≡ r = eqb-true q r e in
-      let o = link-outside qs (linkOne nearAll v r x) (rw s (distinct-first eqb r qs d)) in
+      let o = link-outside qs (linkOne rule v r x) (rw s (distinct-first eqb r qs d)) in
       let n : atQubit (nearAfter (x .near) r v) q ≡ v = rw (← s) (getD-set-same (x .near .node) q v absent hn) in
-      let f : atQubit (farAfter nearAll (x .near) (x .far) r v) q ≡ farEntry (x .near) (x .far) v q = rw (← s) (far-here (x .near) (x .far) v q hf) in
+      let f : atQubit (farAfter rule (x .near) (x .far) r v) q ≡ farEntry rule (x .near) (x .far) v q = rw (← s) (far-here rule (x .near) (x .far) v q hf) in
       (o .0 ∙ n, o .1 ∙ f))
       (λ (e : eqb q r ≡ false).
       let apart : q ≡ r → ⊥ = eqb-false q r e in
       let hn′ : q < length (set (x .near .node) r v) = rw length-set hn in
-      let hf′ : q < length (farAfter nearAll (x .near) (x .far) r v .node) = rw (far-length (x .near) (x .far) r v) hf in
-      let i = link-inside qs (linkOne nearAll v r x) (distinct-rest eqb r qs d) (rw (anyOf, e) at m) hn′ hf′ in
-      (i .0, i .1 ∙ rw (near-other (x .near) r v q apart, far-other (x .near) (x .far) r v q apart) refl))
+      let hf′ : q < length (farAfter rule (x .near) (x .far) r v .node) = rw (far-length rule (x .near) (x .far) r v) hf in
+      let i = link-inside steady qs (linkOne rule v r x) (distinct-rest eqb r qs d) (rw (anyOf, e) at m) hn′ hf′ in
+      (i .0, i .1 ∙ rw (near-other (x .near) r v q apart, far-other rule (x .near) (x .far) r v q apart, steady (x .near) (x .far) v r) refl))
       (bool-cases (eqb q r))
 
 -- "last[q] becomes v": the entries of a Set's qubit
-pub set-entries : (m v q : ℕ) (near far : End) → member q (qubits m) ≡ true → q < length (near .node) → q < length (far .node)
-    → (atQubit (linkSet nearAll m v near far .near) q ≡ v) × (atQubit (linkSet nearAll m v near far .far) q ≡ farEntry near far v q)
+pub set-entries : (rule : FarRule) → Steady rule → (m v q : ℕ) (near far : End) → member q (qubits m) ≡ true → q < length (near .node) → q < length (far .node)
+    → (atQubit (linkSet rule m v near far .near) q ≡ v) × (atQubit (linkSet rule m v near far .far) q ≡ farEntry rule near far v q)
 unfolding linkSet
-set-entries m v q near far i hn hf =
-    link-inside v q (qubits m) (record { near = near; far = far; others = [] }) (ascend-distinct (qubits m) (qubits-ascend 64 0 m)) i hn hf
+set-entries rule steady m v q near far i hn hf =
+    link-inside rule v q steady (qubits m) (record { near = near; far = far; others = [] }) (ascend-distinct (qubits m) (qubits-ascend 64 0 m)) i hn hf
 
 -- a qubit outside the Set keeps its entries
-pub set-outside : (m v q : ℕ) (near far : End) → member q (qubits m) ≡ false
-    → (atQubit (linkSet nearAll m v near far .near) q ≡ atQubit near q) × (atQubit (linkSet nearAll m v near far .far) q ≡ atQubit far q)
+pub set-outside : (rule : FarRule) (m v q : ℕ) (near far : End) → member q (qubits m) ≡ false
+    → (atQubit (linkSet rule m v near far .near) q ≡ atQubit near q) × (atQubit (linkSet rule m v near far .far) q ≡ atQubit far q)
 unfolding linkSet
-set-outside m v q near far i = link-outside v q (qubits m) (record { near = near; far = far; others = [] }) i
+set-outside rule m v q near far i = link-outside rule v q (qubits m) (record { near = near; far = far; others = [] }) i
 
 module _ (m v q : ℕ) (first last : End) (among : member q (qubits m) ≡ true) (in-first : q < length (first .node)) (in-last : q < length (last .node)) where
   -- back: "If q was new, first[q] becomes lastAll"
-  pub new-back : present (atQubit last q) ≡ false → present (last .all .0) ≡ true → atQubit (linkAt false (Set m) v first last .far) q ≡ last .all .0
-  new-back n a = set-entries m v q last first among in-last in-first .1 ∙ rw (n, a) refl
+  pub new-back : present (atQubit last q) ≡ false → present (last .all .0) ≡ true → atQubit (linkAt nearAll false (Set m) v first last .far) q ≡ last .all .0
+  new-back n a = set-entries nearAll (λ near far v q. refl) m v q last first among in-last in-first .1 ∙ rw (n, a) refl
 
   -- ".. or v if that is absent"
-  pub new-alone : present (atQubit last q) ≡ false → present (last .all .0) ≡ false → atQubit (linkAt false (Set m) v first last .far) q ≡ v
-  new-alone n a = set-entries m v q last first among in-last in-first .1 ∙ rw (n, a) refl
+  pub new-alone : present (atQubit last q) ≡ false → present (last .all .0) ≡ false → atQubit (linkAt nearAll false (Set m) v first last .far) q ≡ v
+  new-alone n a = set-entries nearAll (λ near far v q. refl) m v q last first among in-last in-first .1 ∙ rw (n, a) refl
 
   -- front: "So a new q gets last[q] = firstAll."
-  pub new-front : present (atQubit first q) ≡ false → present (first .all .0) ≡ true → atQubit (linkAt true (Set m) v first last .far) q ≡ first .all .0
-  new-front n a = set-entries m v q first last among in-first in-last .1 ∙ rw (n, a) refl
+  pub new-front : present (atQubit first q) ≡ false → present (first .all .0) ≡ true → atQubit (linkAt nearAll true (Set m) v first last .far) q ≡ first .all .0
+  new-front n a = set-entries nearAll (λ near far v q. refl) m v q first last among in-first in-last .1 ∙ rw (n, a) refl

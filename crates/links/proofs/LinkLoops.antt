@@ -17,8 +17,8 @@ use Rattle.file.specs.Lists.{anyOf, member}
 use Rattle.graph.specs.declared.NodeIndex.{NodeIndex}
 use Rattle.graph.specs.Dag.{absent, present, orElse}
 use Rattle.file.proofs.BoolLaws.{bool-cases}
-use Rattle.links.specs.Links.{nearAll, qubits, linkQubits, mapped}
-use Rattle.links.specs.Ends.{endWith, OtherAdded, SetLinked, AllLinked}
+use Rattle.links.specs.Links.{FarRule, qubits, linkQubits, mapped}
+use Rattle.links.specs.Ends.{endWith, OtherAdded, Gives, SetLinked, AllLinked}
 use Rattle.links.proofs.QubitLaws.{qubits-next, qubits-none, next-below, fewer, few-qubits}
 
 -- ---- holds
@@ -81,7 +81,7 @@ set-within n l q x room small h j = elim (ℕ-discrete j q) [
 
 -- ---- link_set
 
-module _ (near₀ far₀ : List ℕ) (block₀ : List Bool) (all v : NodeIndex) (mask : ℕ) where
+module _ (near₀ far₀ : List ℕ) (block₀ : List Bool) (all fresh v : NodeIndex) (mask : ℕ) where
   -- linking the qubits that are left gives what linking all of them gives
   pub record SetInv (near far : List ℕ) (block : List Bool) (others : List ℕ) (k m : ℕ) : Type 0 where
     pub bits : m < 2 ^ 64
@@ -91,9 +91,9 @@ module _ (near₀ far₀ : List ℕ) (block₀ : List Bool) (all v : NodeIndex) 
     pub entries : (q : ℕ) → Within 512 (getD near q absent)
     pub long : length others ≡ 64
     pub room : k + length (qubits m) ≤ 64
-    pub same : (e : NodeIndex) (b : List Bool)
-        → linkQubits nearAll (qubits m) (v .0) (record { near = endWith near all block; far = endWith far e b; others = take k others })
-        ≡ linkQubits nearAll (qubits mask) (v .0) (record { near = endWith near₀ all block₀; far = endWith far₀ e b; others = [] })
+    pub same : (rule : FarRule) (e : NodeIndex) (b : List Bool) → Gives rule (v .0) all e (fresh .0)
+        → linkQubits rule (qubits m) (v .0) (record { near = endWith near all block; far = endWith far e b; others = take k others })
+        ≡ linkQubits rule (qubits mask) (v .0) (record { near = endWith near₀ all block₀; far = endWith far₀ e b; others = [] })
 
   module _ (near far : List ℕ) (block : List Bool) (others : List ℕ) (k m : ℕ) (i : SetInv near far block others k m) (pos : 0 < m) where
     pub set-next : trailingZeros 64 m < 64
@@ -105,14 +105,14 @@ module _ (near₀ far₀ : List ℕ) (block₀ : List Bool) (all v : NodeIndex) 
     pub set-source : (q old source : ℕ) → old ≡ getD near q absent → source ≡ orElse old (all .0) → Within 512 source
     set-source q old source ho hs = rw (hs, ho) (or-within 512 (getD near q absent) (all .0) (i .entries q) (i .all-small))
 
-    pub set-step : (q m′ old source fresh : ℕ) (near′ far′ : List ℕ) (block′ : List Bool) (others′ : List ℕ) (k′ : ℕ)
-        → q ≡ trailingZeros 64 m → m′ ≡ bitAnd m (m - 1) → old ≡ getD near q absent → source ≡ orElse old (all .0) → fresh ≡ orElse (all .0) (v .0)
-        → near′ ≡ set near q (v .0) → far′ ≡ cond (present old) far (set far q fresh)
+    pub set-step : (q m′ old source : ℕ) (near′ far′ : List ℕ) (block′ : List Bool) (others′ : List ℕ) (k′ : ℕ)
+        → q ≡ trailingZeros 64 m → m′ ≡ bitAnd m (m - 1) → old ≡ getD near q absent → source ≡ orElse old (all .0)
+        → near′ ≡ set near q (v .0) → far′ ≡ cond (present old) far (set far q (fresh .0))
         → block′ ≡ set (cond (present source) (set block source false) block) (v .0) true
         → OtherAdded source k others others′ k′
         → SetInv near′ far′ block′ others′ k′ m′
     unfolding linkQubits
-    set-step q m′ old source fresh near′ far′ block′ others′ k′ hq hm ho hs hf hn hfar hb hk = record {
+    set-step q m′ old source near′ far′ block′ others′ k′ hq hm ho hs hn hfar hb hk = record {
       bits = rw hm (omega (arith, fewer m pos, i));
       small = i .small;
       all-small = i .all-small;
@@ -122,9 +122,10 @@ module _ (near₀ far₀ : List ℕ) (block₀ : List Bool) (all v : NodeIndex) 
           rw hn (set-within 512 near q (v .0) r (i .small) (i .entries));
       long = hk .size;
       room = rw hm (omega (arith, set-room, hk .few));
-      same = λ e b.
-          let t = rw (qubits-next m pos (i .bits)) at (i .same e b) in
-          rw (hn, hfar, hb, hk .is, hs, ho, hf, hq, hm) t;
+      same = λ rule e b g.
+          let f = g near far block b in
+          let t = rw (qubits-next m pos (i .bits)) at (i .same rule e b g) in
+          rw (hn, hfar, hb, hk .is, hs, ho, ← f, hq, hm) t;
     }
 
   pub set-begin : (others : List ℕ) → mask < 2 ^ 64 → v .0 < 512 → Within 512 (all .0) → length near₀ ≡ 64 → length others ≡ 64
@@ -137,14 +138,14 @@ module _ (near₀ far₀ : List ℕ) (block₀ : List Bool) (all v : NodeIndex) 
     entries = h;
     long = ho;
     room = omega (arith, few-qubits 64 0 mask);
-    same = λ e b. refl;
+    same = λ rule e b g. refl;
   }
 
   pub set-end : (near far : List ℕ) (block : List Bool) (others : List ℕ) (k m : ℕ) → m ≡ 0 → SetInv near far block others k m
-      → SetLinked mask (v .0) all near₀ far₀ block₀ near far block others k
+      → SetLinked mask (v .0) all (fresh .0) near₀ far₀ block₀ near far block others k
   unfolding linkQubits
   set-end near far block others k m z i = record {
-    is = λ e b. let t = rw (z, qubits-none 64 0) at (i .same e b) in sym t;
+    is = λ rule e b g. let t = rw (z, qubits-none 64 0) at (i .same rule e b g) in sym t;
     few = omega (arith, i .room);
     size = i .long;
   }

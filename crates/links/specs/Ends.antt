@@ -11,7 +11,7 @@ use Rattle.graph.specs.declared.Qubit.{Qubit}
 use Rattle.graph.specs.declared.Edges.{Edges}
 use Rattle.graph.specs.declared.End.{End}
 use Rattle.graph.specs.Dag.{absent, present, orElse, node}
-use Rattle.links.specs.Links.{Linked, nearAll, qubits, linkQubits, mapped, link, withEdges}
+use Rattle.links.specs.Links.{Linked, FarRule, qubits, linkQubits, mapped, link, withEdges}
 
 -- a map's entry of a qubit
 abbrev pub entryAt : List ℕ → Qubit → ℕ
@@ -73,11 +73,16 @@ pub record OtherAdded (s k : ℕ) (before after : List ℕ) (r : ℕ) : Type 0 w
   pub few : r ≤ k + 1
   pub size : length after ≡ 64
 
--- "Set, each qubit q", in near's map and block, far's map and the others, of which k stand: far's other parts, e and b, stay
-pub record SetLinked (m v : ℕ) (all : NodeIndex) (near far : List ℕ) (block : List Bool)
+-- "or v if that is absent": with these all-qubit nodes at near and far, the rule gives a new qubit the entry x, whatever the maps and blocks
+abbrev pub Gives : FarRule → ℕ → NodeIndex → NodeIndex → ℕ → Type 0
+Gives rule v all e x = (near far : List ℕ) (b c : List Bool) → orElse (rule (endWith near all b) (endWith far e c)) v ≡ x
+
+-- "Set, each qubit q", in near's map and block, far's map and the others, of which k stand: far's other parts, e and b, stay,
+-- and the rule is any that gives a new qubit the entry fresh
+pub record SetLinked (m v : ℕ) (all : NodeIndex) (fresh : ℕ) (near far : List ℕ) (block : List Bool)
     (near′ far′ : List ℕ) (block′ : List Bool) (others : List ℕ) (k : ℕ) : Type 0 where
-  pub is : (e : NodeIndex) (b : List Bool)
-      → linkQubits nearAll (qubits m) v (record { near = endWith near all block; far = endWith far e b; others = [] })
+  pub is : (rule : FarRule) (e : NodeIndex) (b : List Bool) → Gives rule v all e fresh
+      → linkQubits rule (qubits m) v (record { near = endWith near all block; far = endWith far e b; others = [] })
       ≡ record { near = endWith near′ all block′; far = endWith far′ e b; others = take k others }
   pub few : k ≤ 64
   pub size : length others ≡ 64

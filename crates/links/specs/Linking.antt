@@ -17,7 +17,7 @@ use Rattle.graph.specs.Dag.{empty}
 use Rattle.graph.specs.Soundness.{named, ifPresent}
 use Rattle.file.specs.declared.Outcome.the-variants.{Done, Refused}
 use Rattle.links.specs.declared.LinkedRecords.{LinkedRecords}
-use Rattle.links.specs.Links.{link, withEdges, linkAt}
+use Rattle.links.specs.Links.{FarRule, link, withEdges, linkAt}
 
 -- the ends and edges of v nodes ..
 abbrev pub linksFrom : ℕ → Edges → End → End → LinkedRecords
@@ -32,20 +32,20 @@ abbrev pub linksStopped : ℕ → Refusal → LinkedRecords
 linksStopped k r = record { accepted = k; answer = Refused r; edges = empty .edges; first = empty .first; last = empty .last }
 
 -- record i, at this end and with these qubits, as the next node: "512 nodes", then "distinct edges would pass 2,048"
-unfoldable pub linkRecord : ℕ → Bool → InvolvedQubits → LinkedRecords → LinkedRecords
-linkRecord i f qubits x = let y = linkAt f qubits (x .accepted) (x .first) (x .last) in
+unfoldable pub linkRecord : FarRule → ℕ → Bool → InvolvedQubits → LinkedRecords → LinkedRecords
+linkRecord rule i f qubits x = let y = linkAt rule f qubits (x .accepted) (x .first) (x .last) in
     cond (leb 512 (x .accepted)) (linksStopped (x .accepted) TooManyNodes)
     (cond (ltb 2048 (x .edges .count + length (y .others))) (linksStopped (x .accepted) (TooManyEdges i))
     (linksFrom (x .accepted + 1) (withEdges (x .edges) (map (link f (x .accepted)) (y .others))) (cond f (y .near) (y .far)) (cond f (y .far) (y .near))))
 
 -- the file's records with these numbers, one after the other: 2, 1, 8, 3 where the file has no such record, "then per
 -- record 4" and so on
-unfoldable pub linkRecords : List ℕ → LinkedRecords → List ℕ → LinkedRecords
-linkRecords s x [] = x
-linkRecords s x (i ∷ l) =
+unfoldable pub linkRecords : FarRule → List ℕ → LinkedRecords → List ℕ → LinkedRecords
+linkRecords rule s x [] = x
+linkRecords rule s x (i ∷ l) =
     elim (parseAt s i) [
       | NotTaken c ↦ linksStopped (x .accepted) c
-      | Parses r ↦ let y = linkRecord i (r .front) (r .qubits) x in elim (y .answer) [ Done ↦ linkRecords s y l | Refused c ↦ y ]
+      | Parses r ↦ let y = linkRecord rule i (r .front) (r .qubits) x in elim (y .answer) [ Done ↦ linkRecords rule s y l | Refused c ↦ y ]
     ]
 
 -- the clauses on the ends and edges that linking goes by: "every stored node number is below the node count", of the maps, firstAll and lastAll;
@@ -58,6 +58,6 @@ abbrev pub linksKept : NodeIndex → Edges → End → End → Refusal → Linke
 linksKept v edges first last r = record { accepted = v .0; answer = Refused r; edges = edges; first = first; last = last }
 
 -- one record as node v, "record (0 on insertion)", on the ends and edges of a graph with v nodes: 11 where they break these clauses, then 5, 6
-unfoldable pub linkNode : Bool → InvolvedQubits → NodeIndex → Edges → End → End → LinkedRecords
-linkNode f qubits v edges first last = let y = linkRecord 0 f qubits (linksFrom (v .0) edges first last) in
+unfoldable pub linkNode : FarRule → Bool → InvolvedQubits → NodeIndex → Edges → End → End → LinkedRecords
+linkNode rule f qubits v edges first last = let y = linkRecord rule 0 f qubits (linksFrom (v .0) edges first last) in
     cond (linksFit (v .0) edges first last) (elim (y .answer) [ Done ↦ y | Refused r ↦ linksKept v edges first last r ]) (linksKept v edges first last Unsound)

@@ -10,6 +10,8 @@ use Rattle.file.specs.declared.InvolvedQubits.{InvolvedQubits}
 use Rattle.file.specs.declared.InvolvedQubits.the-variants.{None, All, Set}
 use Rattle.graph.specs.declared.Edges.{Edges}
 use Rattle.graph.specs.declared.End.{End}
+use Rattle.links.specs.declared.LoadingRule.{LoadingRule}
+use Rattle.links.specs.declared.LoadingRule.the-variants.{NearAll, FarAll}
 use Rattle.graph.specs.Dag.{Edge, present, orElse, node, edge, atQubit}
 
 -- "bit q for qubit q"; "Qubits are taken from the lowest up": of the k lowest bits of m those set, as q, q + 1, ..
@@ -35,6 +37,15 @@ FarRule = End → End → ℕ
 -- document 01's: lastAll at the back
 abbrev pub nearAll : End → End → ℕ
 nearAll near far = near .all .0
+
+-- the other: firstAll at the back
+abbrev pub farAll : End → End → ℕ
+farAll near far = far .all .0
+
+-- the rule that the code is given
+abbrev pub ruleOf : LoadingRule → FarRule
+ruleOf NearAll = nearAll
+ruleOf FarAll = farAll
 
 -- "the source is last[q], else lastAll"
 abbrev pub source : End → ℕ → ℕ
@@ -110,8 +121,8 @@ linkBy All rule v near far = linkAll v near far
 linkBy (Set m) rule v near far = linkSet rule m v near far
 
 -- "Front insertion is the mirror": the rule on first and last, near being first at the front and last at the back
-abbrev pub linkAt : Bool → InvolvedQubits → ℕ → End → End → Linked
-linkAt front qubits v first last = linkBy qubits nearAll v (cond front first last) (cond front last first)
+abbrev pub linkAt : FarRule → Bool → InvolvedQubits → ℕ → End → End → Linked
+linkAt rule front qubits v first last = linkBy qubits rule v (cond front first last) (cond front last first)
 
 -- "add source to v" at the back, "edges out of v" at the front
 abbrev pub link : Bool → ℕ → ℕ → Edge

@@ -9,10 +9,11 @@ ghost use lib.Bits.{bitAnd};
 ghost use lib.Count.{trailingZeros};
 ghost use Rattle.file.specs.Lists.{member, anyOf};
 ghost use Rattle.graph.specs.Dag.{absent, present, orElse};
-ghost use Rattle.links.specs.Links.{nearAll, qubits, linkSet, linkAll, linkBy, link};
-ghost use Rattle.links.specs.Ends.{entryAt, withEntry, endState, Only, OtherAdded, SetLinked, AllLinked, StateGrown, nearState, farState};
+ghost use Rattle.links.specs.Links.{ruleOf, qubits, linkSet, linkAll, linkBy, link};
+ghost use Rattle.links.specs.Ends.{entryAt, withEntry, endState, Only, OtherAdded, Gives, SetLinked, AllLinked, StateGrown, nearState, farState};
 ghost use Rattle.links.specs.Ends.{JoinedBy, JoinedEndsBy, EdgesAdded, lentEnd, LentFits, joined, joinedEnds};
 ghost use Rattle.links.specs.Links.{linkAt, edgeBound};
+use crate::LoadingRule;
 use file::InvolvedQubits;
 use graph::NodeIndex;
 use graph::Qubit;
@@ -50,6 +51,21 @@ fn or_else(a: NodeIndex, b: NodeIndex) -> NodeIndex
     ensures { λ r. ⌜ r .0 ≡ orElse (a .0) (b .0) ⌝ }
 {
     if a.0 != 65535 { a } else { b }
+}
+
+// What a new qubit's entry at the far end becomes: the rule's all-qubit node, else v.
+fn fresh_entry(
+    rule: LoadingRule,
+    near_all: NodeIndex,
+    far_all: NodeIndex,
+    v: NodeIndex,
+) -> NodeIndex
+    ensures { λ r. ⌜ Gives (ruleOf rule) (v .0) «near_all» «far_all» (r .0) ⌝ }
+{
+    match rule {
+        LoadingRule::NearAll => or_else(near_all, v),
+        LoadingRule::FarAll => or_else(far_all, v),
+    }
 }
 
 // The lowest qubit of a mask.
@@ -194,23 +210,23 @@ fn add_other(others: &mut [u16; 64], k: usize, s: NodeIndex) -> usize
 }
 
 // Insertion of v on the qubits of the mask: both maps, near's block, and the distinct nodes that v is joined with, whose
-// count is returned.
+// count is returned. A new qubit's entry in far becomes fresh.
 fn link_set(
     near_node: &mut [u16; 64],
     far_node: &mut [u16; 64],
     near_block: &mut [bool; 512],
     others: &mut [u16; 64],
     all: NodeIndex,
+    fresh: NodeIndex,
     v: NodeIndex,
     mask: u64,
 ) -> usize
     requires { ⌜ (v .0 < 512) × (present (all .0) ≡ true → all .0 < 512)
         × (length (now «near_node») ≡ 64) × (length (now others) ≡ 64) ⌝ }
     requires { ⌜ ((q : ℕ) → present (getD (now «near_node») q absent) ≡ true → getD (now «near_node») q absent < 512) ⌝ }
-    ensures { λ r. ⌜ SetLinked mask (v .0) all (now («near_node» .entry)) (now («far_node» .entry)) (now («near_block» .entry))
+    ensures { λ r. ⌜ SetLinked mask (v .0) all (fresh .0) (now («near_node» .entry)) (now («far_node» .entry)) (now («near_block» .entry))
         (now («near_node» .exit)) (now («far_node» .exit)) (now («near_block» .exit)) (now (others .exit)) r ⌝ }
 {
-    let fresh = or_else(all, v);
     let mut k: usize = 0;
     let mut m = mask;
     while m != 0 {
@@ -316,19 +332,21 @@ fn join_set(
     near_block: &mut [bool; 512],
     far_block: &mut [bool; 512],
     others: &mut [u16; 64],
+    rule: LoadingRule,
 ) -> usize
     requires { ⌜ (v .0 < 512) × (length (now others) ≡ 64)
         × LentFits (v .0) (now near) (now «near_node») (now «near_block»)
         × LentFits (v .0) (now far) (now «far_node») (now «far_block») ⌝ }
     ensures { λ r. ⌜ JoinedBy
-        (linkSet nearAll mask (v .0)
+        (linkSet (ruleOf rule) mask (v .0)
         (lentEnd (now (near .entry)) (now («near_node» .entry)) (now («near_block» .entry)))
         (lentEnd (now (far .entry)) (now («far_node» .entry)) (now («far_block» .entry))))
         (v .0 + 1) (joined r (now (near .exit)) (now (far .exit)))
         (now («near_node» .exit)) (now («far_node» .exit)) (now («near_block» .exit)) (now («far_block» .exit)) (now (others .exit)) ⌝ }
 {
     let all = NodeIndex(near[ALL]);
-    let k = link_set(near_node, far_node, near_block, others, all, v, mask);
+    let fresh = fresh_entry(rule, all, NodeIndex(far[ALL]), v);
+    let k = link_set(near_node, far_node, near_block, others, all, fresh, v, mask);
     let t = mask_top(mask);
     join_block(far_block, v, k == 0);
     grow_end(near, t, mask != 0);
@@ -404,12 +422,13 @@ pub(crate) fn join_end(
     near_block: &mut [bool; 512],
     far_block: &mut [bool; 512],
     others: &mut [u16; 64],
+    rule: LoadingRule,
 ) -> usize
     requires { ⌜ (v .0 < 512) × (length (now others) ≡ 64)
         × LentFits (v .0) (now near) (now «near_node») (now «near_block»)
         × LentFits (v .0) (now far) (now «far_node») (now «far_block») ⌝ }
     ensures { λ r. ⌜ JoinedBy
-        (linkBy qubits nearAll (v .0)
+        (linkBy qubits (ruleOf rule) (v .0)
         (lentEnd (now (near .entry)) (now («near_node» .entry)) (now («near_block» .entry)))
         (lentEnd (now (far .entry)) (now («far_node» .entry)) (now («far_block» .entry))))
         (v .0 + 1) (joined r (now (near .exit)) (now (far .exit)))
@@ -437,6 +456,7 @@ pub(crate) fn join_end(
             near_block,
             far_block,
             others,
+            rule,
         ),
     }
 }
@@ -453,12 +473,13 @@ pub(crate) fn join_record(
     first_block: &mut [bool; 512],
     last_block: &mut [bool; 512],
     others: &mut [u16; 64],
+    rule: LoadingRule,
 ) -> usize
     requires { ⌜ (v .0 < 512) × (length (now others) ≡ 64)
         × LentFits (v .0) (now first) (now «first_node») (now «first_block»)
         × LentFits (v .0) (now last) (now «last_node») (now «last_block») ⌝ }
     ensures { λ r. ⌜ JoinedEndsBy front
-        (linkAt front qubits (v .0)
+        (linkAt (ruleOf rule) front qubits (v .0)
         (lentEnd (now (first .entry)) (now («first_node» .entry)) (now («first_block» .entry)))
         (lentEnd (now (last .entry)) (now («last_node» .entry)) (now («last_block» .entry))))
         (v .0 + 1) (joinedEnds r (now (first .exit)) (now (last .exit)))
@@ -475,6 +496,7 @@ pub(crate) fn join_record(
             first_block,
             last_block,
             others,
+            rule,
         );
     }
     join_end(
@@ -487,6 +509,7 @@ pub(crate) fn join_record(
         last_block,
         first_block,
         others,
+        rule,
     )
 }
 

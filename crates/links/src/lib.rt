@@ -9,6 +9,12 @@ use graph::End;
 pub use records::link_node;
 pub use records::link_records;
 
+// Which all-qubit node a new qubit's entry at the far end becomes: the near end's (document 01), or the far end's.
+pub enum LoadingRule {
+    NearAll,
+    FarAll,
+}
+
 // How many nodes there are, whether all records were accepted, and the ends and edges that join the nodes.
 pub struct LinkedRecords {
     pub accepted: usize,

@@ -21,7 +21,7 @@ use Rattle.accessors.specs.Accessors.{firstInvolvingClassical, lastInvolvingCla
 use Rattle.registers.specs.Registers.{put, define, setKeys, registersAfter}
 use Rattle.links.specs.Links.{qubitsFrom, linkQubits, linkSet, mapped, linkAll}
 use Rattle.insertion.specs.Insertion.{grown}
-use Rattle.insertion.specs.Limits.{insertAs, insertOf}
+use Rattle.insertion.specs.Limits.{insertAs, insertBy}
 use Rattle.insertion.specs.Calls.{graphAfter, final}
 use Rattle.walk.specs.Blocks.{marks, start, joined, followers, blocksFrom, blocks, numberFrom, wholeWalk}
 use Rattle.walk.specs.Guarantee.{acceptedFrom}
@@ -30,7 +30,7 @@ use Rattle.planning.specs.BenchTable.{B, BAll, NameSet, case2, case4, ca
 
 -- a declaration that says `unfolding rules` computes with every rule
 unfoldable pub rules : ℕ
-unfolding numberAt anyOf allOf keep distinct countFrom markedFrom definitionRule qubitRule entryBefore ascendFrom setRule tailRule recordRule qubitsBy classicalOf noEnd noRegisters empty ascends sound put define setKeys registersAfter qubitsFrom linkQubits linkSet mapped linkAll grown insertAs insertOf graphAfter reachedBy blocking remove layerAfter newFrontLayer placeIn sortByPlace circuitOf marks start joined followers blocksFrom blocks numberFrom wholeWalk acceptedFrom chainFrom chainOf
+unfolding numberAt anyOf allOf keep distinct countFrom markedFrom definitionRule qubitRule entryBefore ascendFrom setRule tailRule recordRule qubitsBy classicalOf noEnd noRegisters empty ascends sound put define setKeys registersAfter qubitsFrom linkQubits linkSet mapped linkAll grown insertAs insertBy graphAfter reachedBy blocking remove layerAfter newFrontLayer placeIn sortByPlace circuitOf marks start joined followers blocksFrom blocks numberFrom wholeWalk acceptedFrom chainFrom chainOf
 rules = 0
 
 -- a list without a front operation has no condition on all-qubit operations

@@ -11,7 +11,8 @@ use Rattle.file.specs.Lists.{allOf}
 use Rattle.graph.specs.declared.CircuitDag.{CircuitDag}
 use Rattle.graph.specs.Dag.{absent, size}
 use Rattle.graph.specs.Soundness.{sound}
-use Rattle.insertion.specs.Calls.{final}
+use Rattle.links.specs.declared.LoadingRule.the-variants.{NearAll}
+use Rattle.insertion.specs.Calls.{allBy, final}
 use Rattle.insertion.proofs.BuiltLaws.{sound-built}
 use Rattle.walk.specs.Blocks.{blocks}
 use Rattle.walk.specs.Guarantee.{Accepted, accepted, takesQubits, clash}
@@ -41,7 +42,7 @@ module _ (l : List (List ℕ)) (bytes : allOf (allOf (λ b. ltb b 256)) l ≡ tr
   done = accepted l
 
   s : sound g ≡ true
-  s = sound-built l .sound
+  s = sound-built (allBy NearAll l) .sound
 
   T : Built g done
   T = built l bytes

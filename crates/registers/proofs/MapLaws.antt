@@ -23,6 +23,7 @@ use Rattle.graph.specs.Soundness.{keysDistinct, registerMapRule}
 use Rattle.file.proofs.BoolLaws.{and-l, and-r, or-l, or-r}
 use Rattle.graph.proofs.SizeLaws.{RegistersSized}
 use Rattle.links.specs.declared.LinkedRecords.{LinkedRecords}
+use Rattle.links.specs.Links.{FarRule}
 use Rattle.links.specs.Linking.{noLinks, linkRecords}
 use Rattle.links.proofs.LinkingLaws.{links-between}
 use Rattle.registers.specs.declared.Registered.{Registered}
@@ -132,12 +133,12 @@ module _ (file order : List ℕ) (k : ℕ) (first last : Registers) (before : Re
 
 -- ---- The links and the maps together
 
-module _ (file order : List ℕ) (x : LinkedRecords) (made : x ≡ linkRecords file noLinks order) where
+module _ (rule : FarRule) (file order : List ℕ) (x : LinkedRecords) (made : x ≡ linkRecords rule file noLinks order) where
   -- the records that the links accept
   pub accepted-few : (x .accepted ≤ length order) × (x .accepted ≤ 512)
-  accepted-few = let b = links-between file order noLinks in rw made (omega (arith, b .high), b .few (omega arith))
+  accepted-few = let b = links-between rule file order noLinks in rw made (omega (arith, b .high), b .few (omega arith))
 
-  pub joined : (r : Registered) → r ≡ enterRecords file (take (x .accepted - 0) (drop 0 order)) → record { linked = x; registered = r } ≡ registerRecords file order
+  pub joined : (r : Registered) → r ≡ enterRecords file (take (x .accepted - 0) (drop 0 order)) → record { linked = x; registered = r } ≡ registerRecords rule file order
   unfolding registerRecords
   joined r entered = let z : x .accepted - 0 ≡ x .accepted = omega arith in rw (entered, z, made) refl
 

@@ -22,6 +22,8 @@ use Rattle.file.specs.declared.Outcome.{Outcome}
 use Rattle.file.specs.declared.Outcome.the-variants.{Done, Refused as NotLoaded}
 use Rattle.insertion.specs.declared.Loaded.{Loaded}
 use Rattle.insertion.specs.Load.{load}
+use Rattle.links.specs.declared.LoadingRule.the-variants.{NearAll}
+use Rattle.insertion.specs.Calls.{allBy}
 use Rattle.insertion.specs.Built.{recordsIn}
 use Rattle.insertion.proofs.BuiltLaws.{sound-built}
 use Rattle.insertion.proofs.BuiltLoads.{load-inserts}
@@ -103,7 +105,7 @@ pub same-count : (j k : ℕ) → Blocks j ≡ Blocks k → j ≡ k
 same-count j k e = ap blocks-of e
 
 pub loaded-sound : (s : List ℕ) → load s .answer ≡ Done → sound (load s .graph) ≡ true
-loaded-sound s h = let l = load-inserts s in ap sound (l .inserts (l .sound h) .done h) ∙ sound-built (recordsIn s (upTo (countOf s))) .sound
+loaded-sound s h = let l = load-inserts NearAll s in ap sound (l .inserts (l .sound h) .done h) ∙ sound-built (allBy NearAll (recordsIn s (upTo (countOf s)))) .sound
 
 -- a text in the array that starts as zeros
 pub text-onto : (t : List ℕ) → length t ≤ 5120 → sets (replicate 5120 0) 0 t ≡ onto t (replicate 5120 0)

@@ -25,9 +25,10 @@ use Rattle.graph.proofs.ListLaws.{all-here, all-fails}
 use Rattle.insertion.specs.declared.Answer.the-variants.{Node, Refused}
 use Rattle.insertion.specs.declared.Inserted.{Inserted}
 use Rattle.links.specs.Links.{nearAll}
+use Rattle.links.specs.declared.LoadingRule.the-variants.{NearAll}
 use Rattle.insertion.specs.Insertion.{grown}
-use Rattle.insertion.specs.Limits.{refused, edgesPass, registersPass, insertAs, insertOf}
-use Rattle.insertion.specs.Calls.{graphAfter, final}
+use Rattle.insertion.specs.Limits.{refused, edgesPass, registersPass, insertAs, insertBy, insertOf}
+use Rattle.insertion.specs.Calls.{graphAfter, allBy, final}
 use Rattle.insertion.proofs.SafeEnds.{all-same}
 use Rattle.insertion.proofs.SafeEdges.{between}
 use Rattle.insertion.proofs.BuiltLaws.{Safe, safe-sound, safe-insert, safe-built}
@@ -239,7 +240,7 @@ module _ (g : CircuitDag) (l : List Accepted) (T : Built g l) (s : List ℕ) (lo
 
 insert-told : (g : CircuitDag) (s : List ℕ) → sound g ≡ true → (P : Inserted → Type 0) → ((r : Refusal) → P (refused r g))
     → (recordRule s ≡ true → size g < 512 → P (record { answer = Node (node (size g)); graph = grown nearAll g s })) → P (insertOf g s)
-unfolding insertOf insertAs
+unfolding insertBy insertAs
 insert-told g s h P p q = rw h (go (not (recordRule s)) (leb 512 (size g)) (edgesPass nearAll g s) (registersPass g s) refl refl)
   where
     go : (a b c d : Bool) → not (recordRule s) ≡ a → leb 512 (size g) ≡ b
@@ -258,20 +259,20 @@ acceptStep b f s l x = elim (x .answer) [
 ]
 
 built-from : (l : List (List ℕ)) (g : CircuitDag) (b f : ℕ) (d : List Accepted) → Built g d → b ≡ g .backs → f ≡ g .fronts
-    → allOf (allOf (λ b. ltb b 256)) l ≡ true → Built (graphAfter g l) (d ++ acceptedFrom g b f l)
+    → allOf (allOf (λ b. ltb b 256)) l ≡ true → Built (graphAfter g (allBy NearAll l)) (d ++ acceptedFrom g b f l)
 unfolding graphAfter acceptedFrom
 built-from [] g b f d T p q h = subst (λ (x : List Accepted). Built g x) (sym (append-nil d)) T
 built-from (s ∷ l) g b f d T p q h = insert-told g s (safe-sound g (T .safe))
-    (λ x. Safe false (x .graph) → Built (graphAfter (x .graph) l) (d ++ acceptStep b f s l x))
+    (λ x. Safe false (x .graph) → Built (graphAfter (x .graph) (allBy NearAll l)) (d ++ acceptStep b f s l x))
     (λ r G. built-from l g b f d T p q rest)
     (λ k low G.
     let e = grown-at g s in
     let o : Accepted = record { node = b + f; place = cond (front s) (negsuc f) (pos b); bytes = s } in
     let t = built-more g d T s low k here o ((λ i. p i + q i) ∙ T .safe .nodes .ends) (λ i. cond (front s) (negsuc (q i)) (pos (p i))) refl (subst (λ (x : CircuitDag). Safe false x) e G) in
-    subst (λ (x : List Accepted). Built (graphAfter (grown nearAll g s) l) x) (append-assoc d (o ∷ []) _)
+    subst (λ (x : List Accepted). Built (graphAfter (grown nearAll g s) (allBy NearAll l)) x) (append-assoc d (o ∷ []) _)
     (built-from l (grown nearAll g s) (cond (front s) b (b + 1)) (cond (front s) (f + 1) f) (d ++ (o ∷ [])) (subst (λ (x : CircuitDag). Built x (d ++ (o ∷ []))) (sym e) t)
     (backs (front s) ∙ sym (ap (λ (x : CircuitDag). x .backs) e)) (fronts (front s) ∙ sym (ap (λ (x : CircuitDag). x .fronts) e)) rest))
-    (safe-insert g s (T .safe))
+    (safe-insert NearAll g s (T .safe))
   where
     here : allOf (λ b. ltb b 256) s ≡ true
     here = ⊎-elim (λ (t : allOf (λ b. ltb b 256) s ≡ true). t) (λ (t : allOf (λ b. ltb b 256) s ≡ false). absurd (clash-bool h (all-fails (allOf (λ b. ltb b 256)) s l t))) (bool-cases (allOf (λ b. ltb b 256) s))

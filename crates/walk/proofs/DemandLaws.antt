@@ -16,11 +16,12 @@ use Rattle.graph.specs.Dag.{absent, size, hasEdge, node}
 use Rattle.graph.specs.Soundness.{sound}
 use Rattle.file.proofs.BoolLaws.{bool-cases, clash-bool, not-true, bool-ext, and-l, and-r, eqb-flip}
 use Rattle.graph.proofs.ListLaws.{any-here, any-later, keep-any, member-keep, length-upTo, upTo-at, all-append}
-use Rattle.insertion.specs.Calls.{final}
+use Rattle.insertion.specs.Calls.{allBy, final}
 use Rattle.insertion.proofs.BuiltLaws.{sound-built}
 use Rattle.file.specs.Records.{recordRule}
 use Rattle.graph.specs.declared.NodeIndex.{NodeIndex}
 use Rattle.links.specs.Links.{nearAll}
+use Rattle.links.specs.declared.LoadingRule.the-variants.{NearAll}
 use Rattle.insertion.specs.declared.Answer.the-variants.{Node}
 use Rattle.insertion.specs.declared.Inserted.{Inserted}
 use Rattle.insertion.specs.Insertion.{grown}
@@ -113,7 +114,7 @@ module _ (l : List (List ℕ)) (buffer : List ℕ) (C : Condition l) (room : siz
   T = built l (C .bytes)
 
   W : Within g
-  W = sound-within g (sound-built l .sound)
+  W = sound-within g (sound-built (allBy NearAll l) .sound)
 
   abbrev N : Net
   N = netOf done
@@ -158,7 +159,7 @@ module _ (l : List (List ℕ)) (buffer : List ℕ) (C : Condition l) (room : siz
   written = entry l buffer
 
   sound-g : sound g ≡ true
-  sound-g = sound-built l .sound
+  sound-g = sound-built (allBy NearAll l) .sound
 
   -- the entry is the number of the walk on sets
   entry-is : (v : ℕ) → v < length done → written v ≡ num v
@@ -256,8 +257,8 @@ module _ (l : List (List ℕ)) (buffer : List ℕ) (C : Condition l) (room : siz
 
   guaranteed : Guarantee l buffer
   guaranteed = record {
-    calls = λ before rest s e. sound-built before .never s;
-    numbers = λ before rest s v e a. sym (number-of (final before) s v (sym (ap (λ (x : Inserted). x .answer) (sound-built before .never s)) ∙ a))
+    calls = λ before rest s e. sound-built (allBy NearAll before) .never NearAll s;
+    numbers = λ before rest s v e a. sym (number-of (final before) s v (sym (ap (λ (x : Inserted). x .answer) (sound-built (allBy NearAll before) .never NearAll s)) ∙ a))
         ∙ sym (built before (and-l _ _ (sym (all-append (allOf (λ b. ltb b 256)) before (s ∷ rest)) ∙ (rw e at (C .bytes)))) .long);
     nodes = sym (T .long);
     count = ap (λ (x : Walked). x .answer) (walk-done g sound-g buffer room) ∙ ap Blocks (steps-is ∙ sym filled-is);
@@ -271,6 +272,6 @@ module _ (l : List (List ℕ)) (buffer : List ℕ) (C : Condition l) (room : siz
 -- every list of insertions on the empty graph within the condition has a walk with the whole guarantee
 pub demand-3 : Demand3
 demand-3 = record {
-  short = λ l buffer C h. walk-short (final l) (sound-built l .sound) buffer h;
+  short = λ l buffer C h. walk-short (final l) (sound-built (allBy NearAll l) .sound) buffer h;
   whole = λ l buffer C room. guaranteed l buffer C room;
 }

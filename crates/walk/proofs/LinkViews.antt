@@ -320,21 +320,21 @@ module _ (n : ℕ) (E : ℕ → ℕ → Bool) (near far : End) (N : Net) (S : Se
     set-lasts : (q : ℕ) → q < 64 → cond (has m q) (some (N .size)) (N .last q) ≡ found (atQubit (x .near) q)
     set-lasts q l = ⊎-elim
         (λ (e : has m q ≡ true). rw e (ap some (S .size) ∙ sym (found-low n (F .low))
-        ∙ ap found (sym (set-entries m n q near far e (omega (arith, F .near-nodes)) (omega (arith, F .far-nodes)) .0))))
-        (λ (e : has m q ≡ false). rw e (S .lasts q l ∙ ap found (sym (set-outside m n q near far e .0))))
+        ∙ ap found (sym (set-entries nearAll (λ a b c d. refl) m n q near far e (omega (arith, F .near-nodes)) (omega (arith, F .far-nodes)) .0))))
+        (λ (e : has m q ≡ false). rw e (S .lasts q l ∙ ap found (sym (set-outside nearAll m n q near far e .0))))
         (bool-cases (has m q))
 
     set-firsts : (q : ℕ) → q < 64 → cond (has m q && not (isSome (N .last q))) (some (or (N .lastAll) (N .size))) (N .first q) ≡ found (atQubit (x .far) q)
     set-firsts q l = ⊎-elim
         (λ (e : has m q ≡ true). rw e (new (present (atQubit near q)) refl
-        ∙ ap found (sym (set-entries m n q near far e (omega (arith, F .near-nodes)) (omega (arith, F .far-nodes)) .1))))
-        (λ (e : has m q ≡ false). rw e (S .firsts q l ∙ ap found (sym (set-outside m n q near far e .1))))
+        ∙ ap found (sym (set-entries nearAll (λ a b c d. refl) m n q near far e (omega (arith, F .near-nodes)) (omega (arith, F .far-nodes)) .1))))
+        (λ (e : has m q ≡ false). rw e (S .firsts q l ∙ ap found (sym (set-outside nearAll m n q near far e .1))))
         (bool-cases (has m q))
       where
         known : isSome (N .last q) ≡ present (atQubit near q)
         known = ap isSome (S .lasts q l) ∙ found-some (atQubit near q)
 
-        new : (b : Bool) → present (atQubit near q) ≡ b → cond (not (isSome (N .last q))) (some (or (N .lastAll) (N .size))) (N .first q) ≡ found (farEntry near far n q)
+        new : (b : Bool) → present (atQubit near q) ≡ b → cond (not (isSome (N .last q))) (some (or (N .lastAll) (N .size))) (N .first q) ≡ found (farEntry nearAll near far n q)
         new true e = rw (known ∙ e, e) (S .firsts q l)
         new false e = rw (known ∙ e, e) ((λ i. some (or (S .last-all i) (S .size i))) ∙ found-or (near .all .0) n (F .low))
 

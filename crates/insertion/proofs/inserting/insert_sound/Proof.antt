@@ -11,7 +11,7 @@ use Rattle.insertion.proofs.inserting.insert_sound.Tie as tie
 
 -- the lengths of the graph's arrays
 sized : (c : tie.Start) → DagSized (c .args .g)
-sized c = dag-sized (c .args .g) _ (c .good .0)
+sized c = dag-sized (c .args .g) _ (c .good .1 .0)
 
 parse-record-requires : tie.Need-parse-record-requires
 parse-record-requires c κs = search needs
@@ -26,10 +26,10 @@ not-inserted-requires : tie.Need-not-inserted-requires
 not-inserted-requires c κs = search needs
 
 returns : tie.Need-returns
-returns c = c .not-inserted .ensures ∙ sym (broken 0 _ _ (not-parsed _ _ (sym (c .before .before .before .parse-record .ensures) ∙ c .before .enum-told .given .1)))
+returns c = c .not-inserted .ensures ∙ sym (broken _ 0 _ _ (not-parsed _ _ (sym (c .before .before .before .parse-record .ensures) ∙ c .before .enum-told .given .1)))
 
-cast-t16 : tie.Need-cast-t16
-cast-t16 c = let s = c .before .before .before .before .before in omega (arith, few-nodes (s .args .g) (s .pre) (sized s))
+cast-t17 : tie.Need-cast-t17
+cast-t17 c = let s = c .before .before .before .before .before in omega (arith, few-nodes (s .args .g) (s .pre) (sized s))
 
 link-node-requires : tie.Need-link-node-requires
 link-node-requires c κs = search needs
@@ -42,7 +42,7 @@ not-inserted-requires-2 c κs = search needs
 
 returns-2 : tie.Need-returns-2
 returns-2 c = let n = c .before .before .before .before in let s = n .before .before .before .before .before .before in let p = parsed _ _ (sym (n .before .before .before .before .parse-record .ensures) ∙ n .before .before .parsed .given .1) in
-    c .not-inserted2 .ensures ∙ stays (s .args .g) (s .pre) (sized s) _ (p .0) _ _ (p .1) (n .link-node .ensures) _ (c .before .before .answer .given .1)
+    c .not-inserted2 .ensures ∙ stays _ (s .args .g) (s .pre) (sized s) _ (p .0) _ _ (p .1) (n .link-node .ensures) _ (c .before .before .answer .given .1)
 
 enum-told-2 : tie.Need-enum-told-2
 enum-told-2 c = search needs
@@ -58,7 +58,7 @@ not-inserted-requires-3 c κs = search needs
 
 returns-3 : tie.Need-returns-3
 returns-3 c = let n = c .before .before .before .before .before .before .before in let s = n .before .before .before .before .before .before in let p = parsed _ _ (sym (n .before .before .before .before .parse-record .ensures) ∙ n .before .before .parsed .given .1) in
-    c .not-inserted3 .ensures ∙ passes (s .args .g) (s .pre) (sized s) _ (p .0) _ _ (p .1) (n .link-node .ensures) (c .before .before .before .before .before .enum-told2 .given .1) _ (c .before .before .before .before .register-record .ensures) _ (c .before .before .registered .given .1)
+    c .not-inserted3 .ensures ∙ passes _ (s .args .g) (s .pre) (sized s) _ (p .0) _ _ (p .1) (n .link-node .ensures) (c .before .before .before .before .before .enum-told2 .given .1) _ (c .before .before .before .before .register-record .ensures) _ (c .before .before .registered .given .1)
 
 enum-told-3 : tie.Need-enum-told-3
 enum-told-3 c = search needs
@@ -68,14 +68,14 @@ node-lists-requires c κs = search needs
 
 list-node-requires : tie.Need-list-node-requires
 list-node-requires c κs = let n = c .before .before .before .before .before .before in let s = n .before .before .before .before .before .before in let p = parsed _ _ (sym (n .before .before .before .before .parse-record .ensures) ∙ n .before .before .parsed .given .1) in
-    lists-fit (s .args .g) (s .pre) (sized s) _ (p .0) _ _ (p .1) (n .link-node .ensures) (c .before .before .before .before .enum-told2 .given .1) _ (c .node-lists .ensures)
+    lists-fit _ (s .args .g) (s .pre) (sized s) _ (p .0) _ _ (p .1) (n .link-node .ensures) (c .before .before .before .before .enum-told2 .given .1) _ (c .node-lists .ensures)
 
 assemble-requires : tie.Need-assemble-requires
 assemble-requires c κs = search needs
 
 returns-4 : tie.Need-returns-4
 returns-4 c = let n = c .before .before .before .before .before .before .before .before in let s = n .before .before .before .before .before .before in let p = parsed _ _ (sym (n .before .before .before .before .parse-record .ensures) ∙ n .before .before .parsed .given .1) in
-    grown-is (s .args .g) (s .pre) (sized s) _ (p .0) _ _ (p .1) (n .link-node .ensures) (c .before .before .before .before .before .before .enum-told2 .given .1) _ (c .before .before .before .before .before .register-record .ensures) (c .before .before .before .enum-told3 .given .1) _ _ (c .before .before .node-lists .ensures) (c .before .list-node .ensures) _ (c .assemble .ensures)
+    grown-is _ (s .args .g) (s .pre) (sized s) _ (p .0) _ _ (p .1) (n .link-node .ensures) (c .before .before .before .before .before .before .enum-told2 .given .1) _ (c .before .before .before .before .before .register-record .ensures) (c .before .before .before .enum-told3 .given .1) _ _ (c .before .before .node-lists .ensures) (c .before .list-node .ensures) _ (c .assemble .ensures)
 
 pub insert-sound-spec : {M : Type 1} → statement M
 insert-sound-spec =
@@ -86,7 +86,7 @@ insert-sound-spec =
     enum-told
     not-inserted-requires
     returns
-    cast-t16
+    cast-t17
     link-node-requires
     enum-known-answer
     not-inserted-requires-2

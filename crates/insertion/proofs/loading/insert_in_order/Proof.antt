@@ -19,7 +19,7 @@ not-loaded-requires : tie.Need-not-loaded-requires
 not-loaded-requires c κs = search needs
 
 returns : tie.Need-returns
-returns c = c .not-loaded .ensures ∙ maps-refuse _ _ (c .before .before .before .before .before .before .before .before .pre .0) (c .before .before .before .before .before .before .before .before .pre .1) (c .before .before .before .before .before .before .before .before .pre .2) _ (c .before .before .before .before .before .register-records .ensures) _ (c .before .before .entered .given .1)
+returns c = c .not-loaded .ensures ∙ maps-refuse _ _ _ (c .before .before .before .before .before .before .before .before .pre .0) (c .before .before .before .before .before .before .before .before .pre .1) (c .before .before .before .before .before .before .before .before .pre .2) _ (c .before .before .before .before .before .register-records .ensures) _ (c .before .before .entered .given .1)
 
 enum-told : tie.Need-enum-told
 enum-told c = search needs
@@ -31,7 +31,7 @@ not-loaded-requires-2 : tie.Need-not-loaded-requires-2
 not-loaded-requires-2 c κs = search needs
 
 returns-2 : tie.Need-returns-2
-returns-2 c = c .not-loaded2 .ensures ∙ links-refuse _ _ (c .before .before .before .before .before .before .before .before .before .before .before .pre .0) (c .before .before .before .before .before .before .before .before .before .before .before .pre .1) (c .before .before .before .before .before .before .before .before .before .before .before .pre .2) _ (c .before .before .before .before .before .before .before .before .register-records .ensures) (c .before .before .before .before .before .enum-told .given .1) _ (c .before .before .answer .given .1)
+returns-2 c = c .not-loaded2 .ensures ∙ links-refuse _ _ _ (c .before .before .before .before .before .before .before .before .before .before .before .pre .0) (c .before .before .before .before .before .before .before .before .before .before .before .pre .1) (c .before .before .before .before .before .before .before .before .before .before .before .pre .2) _ (c .before .before .before .before .before .before .before .before .register-records .ensures) (c .before .before .before .before .before .enum-told .given .1) _ (c .before .before .answer .given .1)
 
 enum-told-2 : tie.Need-enum-told-2
 enum-told-2 c = search needs
@@ -43,7 +43,7 @@ assemble-requires : tie.Need-assemble-requires
 assemble-requires c κs = search needs
 
 returns-3 : tie.Need-returns-3
-returns-3 c = let x = c .before .before .before .before .before .before .before .before .register-records .result in ap (λ (g : CircuitDag). record { answer = Done; graph = g }) (c .assemble .ensures ∙ ap (λ (n : NodeLists). assembled n (x .linked) (x .registered)) (c .before .list-nodes .ensures)) ∙ both-accept _ _ (c .before .before .before .before .before .before .before .before .before .before .before .pre .0) (c .before .before .before .before .before .before .before .before .before .before .before .pre .1) (c .before .before .before .before .before .before .before .before .before .before .before .pre .2) _ (c .before .before .before .before .before .before .before .before .register-records .ensures) (c .before .before .before .before .before .enum-told .given .1) (c .before .before .enum-told2 .given .1)
+returns-3 c = let x = c .before .before .before .before .before .before .before .before .register-records .result in ap (λ (g : CircuitDag). record { answer = Done; graph = g }) (c .assemble .ensures ∙ ap (λ (n : NodeLists). assembled n (x .linked) (x .registered)) (c .before .list-nodes .ensures)) ∙ both-accept _ _ _ (c .before .before .before .before .before .before .before .before .before .before .before .pre .0) (c .before .before .before .before .before .before .before .before .before .before .before .pre .1) (c .before .before .before .before .before .before .before .before .before .before .before .pre .2) _ (c .before .before .before .before .before .before .before .before .register-records .ensures) (c .before .before .before .before .before .enum-told .given .1) (c .before .before .enum-told2 .given .1)
 
 pub insert-in-order-spec : {M : Type 1} → statement M
 insert-in-order-spec =

@@ -18,13 +18,13 @@ part-enter-records-start : tie.Need-part-enter-records-start
 part-enter-records-start c = search needs
 
 part-enter-records-end : tie.Need-part-enter-records-end
-part-enter-records-end c = omega (arith, accepted-few _ _ _ (c .link-records .ensures) .0)
+part-enter-records-end c = omega (arith, accepted-few _ _ _ _ (c .link-records .ensures) .0)
 
 enter-records-requires : tie.Need-enter-records-requires
-enter-records-requires c κs = omega (arith, accepted-few _ _ _ (c .before .link-records .ensures) .1)
+enter-records-requires c κs = omega (arith, accepted-few _ _ _ _ (c .before .link-records .ensures) .1)
 
 returns : tie.Need-returns
-returns c = joined _ _ _ (c .before .before .link-records .ensures) _ (c .enter-records .ensures)
+returns c = joined _ _ _ _ (c .before .before .link-records .ensures) _ (c .enter-records .ensures)
 
 pub register-records-spec : {M : Type 1} → statement M
 register-records-spec =

@@ -1,10 +1,10 @@
--- `insertion::loading::load` meets its contract. Assumes nothing.
+-- `insertion::loading::load_by` meets its contract. Assumes nothing.
 use mathlib.Core.Path.{sym, _∙_}
 use native.Mathlib.Omega.{arith}
 use Rattle.insertion.proofs.LoadLaws.{bad-file, few, few-numbers, numbers-below, whole}
 use borrow.Author.Needs.{needs}
-use Rattle.insertion.proofs.loading.load.Statement.{statement}
-use Rattle.insertion.proofs.loading.load.Tie as tie
+use Rattle.insertion.proofs.loading.load_by.Statement.{statement}
+use Rattle.insertion.proofs.loading.load_by.Tie as tie
 
 check-file-requires : tie.Need-check-file-requires
 check-file-requires c κs = search needs
@@ -41,13 +41,13 @@ insert-in-order-requires c κs = let good = sym (c .before .before .before .befo
     (good, numbers-below _ _ _ o n good, few-numbers _ _ _ o n good)
 
 returns : tie.Need-returns
-returns c = c .not-loaded .ensures ∙ bad-file _ _ (sym (c .before .before .before .before .check-file .ensures) ∙ c .before .before .found .given .1)
+returns c = c .not-loaded .ensures ∙ bad-file _ _ _ (sym (c .before .before .before .before .check-file .ensures) ∙ c .before .before .found .given .1)
 
 returns-2 : tie.Need-returns-2
-returns-2 c = c .insert-in-order .ensures ∙ whole _ _ _ (c .before .before .before .file-order .ensures) (c .before .before .before .before .record-count .ensures) (sym (c .before .before .before .before .before .before .before .check-file .ensures) ∙ c .before .before .before .before .before .enum-told .given .1)
+returns-2 c = c .insert-in-order .ensures ∙ whole _ _ _ (c .before .before .before .file-order .ensures) (c .before .before .before .before .record-count .ensures) (sym (c .before .before .before .before .before .before .before .check-file .ensures) ∙ c .before .before .before .before .before .enum-told .given .1) _
 
-pub load-spec : {M : Type 1} → statement M
-load-spec =
+pub load-by-spec : {M : Type 1} → statement M
+load-by-spec =
     tie.close
     (tie.spec
     check-file-requires
