@@ -5,23 +5,22 @@ use mathlib.Core.Bool.{Bool, true}
 use mathlib.Core.List.{List, [], _∷_, map}
 use Prim.Native.Nat.{ℕ, zero, suc, _<_}
 use native.Mathlib.Omega.{arith}
-use lib.Dec.{ltb}
 use lib.ListN.{length, getD, List·getD-map}
-use Rattle.file.specs.Lists.{allOf}
 use Rattle.graph.specs.declared.CircuitDag.{CircuitDag}
 use Rattle.graph.specs.Dag.{absent, size}
 use Rattle.graph.specs.Soundness.{sound}
-use Rattle.links.specs.declared.LoadingRule.the-variants.{NearAll}
-use Rattle.insertion.specs.Calls.{allBy, final}
+use Rattle.links.specs.declared.LoadingRule.{LoadingRule}
+use Rattle.insertion.specs.Calls.{Call, allBy, finalBy}
 use Rattle.insertion.proofs.BuiltLaws.{sound-built}
 use Rattle.walk.specs.Blocks.{blocks}
-use Rattle.walk.specs.Guarantee.{Accepted, accepted, takesQubits, clash}
+use Rattle.walk.specs.Guarantee.{Accepted, accepted, takesQubits, clash, Bytes}
 use Rattle.walk.proofs.Heights.{cur-zero}
 use Rattle.walk.proofs.HeightSteps.{block-pred}
 use Rattle.walk.proofs.BlockLaws.{rank, upward, first-start}
 use Rattle.walk.proofs.NumberLaws.{some-first}
 use Rattle.walk.proofs.Nets.{Net, isOp, on-op, clashes}
 use Rattle.walk.proofs.NetRuns.{clash-on}
+use Rattle.walk.proofs.GrownViews.{isFar}
 use Rattle.walk.proofs.AcceptedNets.{callOf, netOf, net-size, noRecord, at, Built, built}
 use Rattle.walk.proofs.RecordTakes.{takes-qubits, clash-is}
 use Rattle.planning.specs.Chain.{chainOf}
@@ -34,36 +33,39 @@ consecutive-map p q h [] c = tt
 consecutive-map p q h (v ∷ []) c = tt
 consecutive-map p q h (v ∷ u ∷ l) c = (h v u (c .0), consecutive-map p q h (u ∷ l) (c .1))
 
-module _ (l : List (List ℕ)) (bytes : allOf (allOf (λ b. ltb b 256)) l ≡ true) where
+module _ (rule : LoadingRule) (l : List (List ℕ)) (bytes : Bytes l) where
+  abbrev calls : List Call
+  calls = allBy rule l
+
   abbrev g : CircuitDag
-  g = final l
+  g = finalBy rule l
 
   abbrev done : List Accepted
-  done = accepted l
+  done = accepted calls
 
   s : sound g ≡ true
-  s = sound-built (allBy NearAll l) .sound
+  s = sound-built calls .sound
 
-  T : Built g done
-  T = built l bytes
+  T : Built (isFar rule) g done
+  T = built rule l bytes
 
   abbrev N : Net
-  N = netOf done
+  N = netOf (isFar rule) done
 
   L : Linked N
-  L = net-linked (map callOf done)
+  L = net-linked (isFar rule) (map callOf done)
 
-  record-is : (u : ℕ) → recordOf l u ≡ at done u .bytes
+  record-is : (u : ℕ) → recordOf calls u ≡ at done u .bytes
   record-is u = List·getD-map (λ (o : Accepted). o .bytes) done u noRecord
 
   low : (u : ℕ) → isOp (N .take u) ≡ true → u < length done
-  low u o = let z = net-size done in omega (arith, L .low u o)
+  low u o = let z = net-size (isFar rule) done in omega (arith, L .low u o)
 
   -- an operation of the net is one by its record
   takes : (u : ℕ) → isOp (N .take u) ≡ true → takesQubits (at done u .bytes) ≡ true
   takes u o = sym (takes-qubits (at done u .bytes) (T .rule u (low u o))) ∙ ap isOp (sym (T .takes u)) ∙ o
 
-  edge-clash : (v u : ℕ) → E g s u v ≡ true → clash (recordOf l u) (recordOf l v) ≡ true
+  edge-clash : (v u : ℕ) → E g s u v ≡ true → clash (recordOf calls u) (recordOf calls v) ≡ true
   edge-clash v u e =
       let x = L .edge-on u v (T .seen .edges u v ∙ e) in
       let a = on-op (N .take u) (x .0) (x .2) in
@@ -81,13 +83,13 @@ module _ (l : List (List ℕ)) (bytes : allOf (allOf (λ b. ltb b 256)) l ≡ tr
       let x = L .edge-on (p .0) v (T .seen .edges (p .0) v ∙ p .2) in
       on-op (N .take v) (x .0) (x .3)
 
-  built-chain : BuiltChain l
+  built-chain : BuiltChain calls
   built-chain = record {
     taking = λ i h.
         let r = whole-in g s (chain-whole g s (length (blocks g)) refl) i h in
         let v = getD (chainOf g) i absent in
         ap takesQubits (record-is v) ∙ takes v (block-op (r .0) v (r .2));
-    clashing = consecutive-map (λ v u. E g s u v) (λ v u. clash (recordOf l u) (recordOf l v)) edge-clash (chainOf g) (sound-chain g s .joined);
+    clashing = consecutive-map (λ v u. E g s u v) (λ v u. clash (recordOf calls u) (recordOf calls v)) edge-clash (chainOf g) (sound-chain g s .joined);
   }
 
 -- every chain

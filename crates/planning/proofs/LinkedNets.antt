@@ -84,8 +84,8 @@ source-on g L q a h = go (g .last q) refl h
     go none e h = all-on (g .take a) q (L .last-all a h)
     go (some b) e h = L .last-on q a (e ∙ h)
 
-linked-these : (g : Net) → Linked g → (m : ℕ → Bool) → Linked (backThese false g m)
-linked-these g L m = record {
+linked-these : (farAll : Bool) (g : Net) → Linked g → (m : ℕ → Bool) → Linked (backThese farAll g m)
+linked-these farAll g L m = record {
   low = taken-low g L (these m);
   edge-on = edge-joins g L (these m) (λ a. any 64 (λ q. m q && is (source g q) a))
       (λ a h. let x = any-and 64 m (λ q. is (source g q) a) h in (x .0, x .1, source-on g L (x .0) a (is-some _ a (x .3)), x .2));
@@ -110,12 +110,19 @@ linked-these g L m = record {
     put-last q a true h e = here q a (sym (same-some e)) h
     put-last q a false h e = old-on g L (these m) a q (L .last-on q a e)
 
-    far-on : (q a : ℕ) (o : Option ℕ) → g .lastAll ≡ o → or o (g .size) ≡ a → m q ≡ true → on (put (g .size) (these m) (g .take) a) q ≡ true
-    far-on q a none f e h = here q a (sym e) h
-    far-on q a (some b) f e h = old-on g L (these m) a q (all-on (g .take a) q (L .last-all a (f ∙ ap some e)))
+    -- the all-qubit node that the rule names
+    named : (b : Bool) (a : ℕ) → cond b (g .firstAll) (g .lastAll) ≡ some a → isAll (g .take a) ≡ true
+    named true = L .first-all
+    named false = L .last-all
 
-    put-first : (q a : ℕ) (b c : Bool) → m q ≡ b → cond (b && not c) (some (far false g (g .size))) (g .first q) ≡ some a → on (put (g .size) (these m) (g .take) a) q ≡ true
-    put-first q a true false h e = far-on q a (g .lastAll) refl (same-some e) h
+    far-on : (q a : ℕ) (o : Option ℕ) → cond farAll (g .firstAll) (g .lastAll) ≡ o → or o (g .size) ≡ a → m q ≡ true
+        → on (put (g .size) (these m) (g .take) a) q ≡ true
+    far-on q a none f e h = here q a (sym e) h
+    far-on q a (some b) f e h = old-on g L (these m) a q (all-on (g .take a) q (named farAll a (f ∙ ap some e)))
+
+    put-first : (q a : ℕ) (b c : Bool) → m q ≡ b → cond (b && not c) (some (far farAll g (g .size))) (g .first q) ≡ some a
+        → on (put (g .size) (these m) (g .take) a) q ≡ true
+    put-first q a true false h e = far-on q a (cond farAll (g .firstAll) (g .lastAll)) refl (same-some e) h
     put-first q a true true h e = old-on g L (these m) a q (L .first-on q a e)
     put-first q a false c h e = old-on g L (these m) a q (L .first-on q a e)
 
@@ -165,23 +172,23 @@ linked-nothing g L = record {
   tail-op = λ v h. old-op g L nothing v (L .tail-op v h);
 }
 
-linked-back : (g : Net) → Linked g → (t : Take) → Linked (back false g t)
-linked-back g L nothing = linked-nothing g L
-linked-back g L every = linked-every g L
-linked-back g L (these m) = linked-these g L m
+linked-back : (farAll : Bool) (g : Net) → Linked g → (t : Take) → Linked (back farAll g t)
+linked-back farAll g L nothing = linked-nothing g L
+linked-back farAll g L every = linked-every g L
+linked-back farAll g L (these m) = linked-these farAll g L m
 
-linked-run : (g : Net) → Linked g → (cs : List Call) → Linked (run false g cs)
+linked-run : (farAll : Bool) (g : Net) → Linked g → (cs : List Call) → Linked (run farAll g cs)
 unfolding run
-linked-run g L [] = L
-linked-run g L (c ∷ cs) = linked-run (insert false g c) (⊎-elim
-    (λ (f : c .front ≡ true). rw f (linked-flip (back false (flip g) (c .takes)) (linked-back (flip g) (linked-flip g L) (c .takes))))
-    (λ (f : c .front ≡ false). rw f (linked-back g L (c .takes)))
+linked-run farAll g L [] = L
+linked-run farAll g L (c ∷ cs) = linked-run farAll (insert farAll g c) (⊎-elim
+    (λ (f : c .front ≡ true). rw f (linked-flip (back farAll (flip g) (c .takes)) (linked-back farAll (flip g) (linked-flip g L) (c .takes))))
+    (λ (f : c .front ≡ false). rw f (linked-back farAll g L (c .takes)))
     (bool-cases (c .front)))
     cs
 
 -- every list of calls
-pub net-linked : (cs : List Call) → Linked (run false empty cs)
-net-linked cs = linked-run empty (record {
+pub net-linked : (farAll : Bool) (cs : List Call) → Linked (run farAll empty cs)
+net-linked farAll cs = linked-run farAll empty (record {
   low = λ u o. absurd (clash-bool o refl);
   edge-on = λ u v e. absurd (clash-bool e refl);
   last-on = λ q a e. absurd (never refl e);

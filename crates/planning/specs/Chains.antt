@@ -4,16 +4,15 @@ use mathlib.Core.Path.{_≡_}
 use mathlib.Core.Bool.{Bool, true}
 use mathlib.Core.List.{List, [], _∷_, map}
 use Prim.Native.Nat.{ℕ, _+_, _≤_, _<_}
-use lib.Dec.{ltb}
 use lib.ListN.{length, getD}
-use Rattle.file.specs.Lists.{allOf}
 use Rattle.graph.specs.declared.CircuitDag.{CircuitDag}
 use Rattle.graph.specs.Dag.{absent, size, hasEdge}
 use Rattle.graph.specs.Soundness.{sound}
-use Rattle.insertion.specs.Calls.{final}
+use Rattle.links.specs.declared.LoadingRule.{LoadingRule}
+use Rattle.insertion.specs.Calls.{Call, built, allBy}
 use Rattle.walk.specs.declared.BlockCount.the-variants.{Blocks}
 use Rattle.walk.specs.Blocks.{blockNumbers, wholeWalk}
-use Rattle.walk.specs.Guarantee.{Accepted, accepted, takesQubits, clash}
+use Rattle.walk.specs.Guarantee.{Accepted, accepted, takesQubits, clash, Bytes}
 use Rattle.planning.specs.Chain.{chainOf}
 
 -- each entry of a list passes with the next
@@ -32,18 +31,18 @@ pub record SoundChain (g : CircuitDag) : Type 0 where
   pub joined : Consecutive (λ v u. hasEdge g u v) (chainOf g)
 
 -- "Node numbers run from 0 in order of insertion": the record that was accepted as node v
-abbrev pub recordOf : List (List ℕ) → ℕ → List ℕ
+abbrev pub recordOf : List Call → ℕ → List ℕ
 recordOf l v = getD (map (λ (o : Accepted). o .bytes) (accepted l)) v []
 
 -- of the graph after the insertions of l
-pub record BuiltChain (l : List (List ℕ)) : Type 0 where
+pub record BuiltChain (l : List Call) : Type 0 where
   -- Each node of the chain is an accepted qubit operation.
-  pub taking : (i : ℕ) → i < length (chainOf (final l)) → takesQubits (recordOf l (getD (chainOf (final l)) i absent)) ≡ true
+  pub taking : (i : ℕ) → i < length (chainOf (built l)) → takesQubits (recordOf l (getD (chainOf (built l)) i absent)) ≡ true
   -- Each clashes with the next, by what their records take: a schedule that keeps clashing operations in order has a block for each.
-  pub clashing : Consecutive (λ v u. clash (recordOf l u) (recordOf l v)) (chainOf (final l))
+  pub clashing : Consecutive (λ v u. clash (recordOf l u) (recordOf l v)) (chainOf (built l))
 
--- For every sound graph; and for every list of insertions on the empty graph, refused ones included, with no condition but that the records
--- are bytes.
+-- For every sound graph; and for every list of insertions by one rule on the empty graph, refused ones included, with no condition but that the
+-- records are bytes.
 pub record Chains : Type 0 where
   pub of-sound : (g : CircuitDag) → sound g ≡ true → SoundChain g
-  pub of-built : (l : List (List ℕ)) → allOf (allOf (λ b. ltb b 256)) l ≡ true → BuiltChain l
+  pub of-built : (rule : LoadingRule) (l : List (List ℕ)) → Bytes l → BuiltChain (allBy rule l)

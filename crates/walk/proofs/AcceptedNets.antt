@@ -24,17 +24,17 @@ use Rattle.file.proofs.BoolLaws.{bool-cases, clash-bool, not-true}
 use Rattle.graph.proofs.ListLaws.{all-here, all-fails}
 use Rattle.insertion.specs.declared.Answer.the-variants.{Node, Refused}
 use Rattle.insertion.specs.declared.Inserted.{Inserted}
-use Rattle.links.specs.Links.{nearAll}
-use Rattle.links.specs.declared.LoadingRule.the-variants.{NearAll}
+use Rattle.links.specs.Links.{ruleOf}
+use Rattle.links.specs.declared.LoadingRule.{LoadingRule}
 use Rattle.insertion.specs.Insertion.{grown}
-use Rattle.insertion.specs.Limits.{refused, edgesPass, registersPass, insertAs, insertBy, insertOf}
-use Rattle.insertion.specs.Calls.{graphAfter, allBy, final}
+use Rattle.insertion.specs.Limits.{refused, edgesPass, registersPass, insertAs, insertBy}
+use Rattle.insertion.specs.Calls.{Call as Insertion, graphAfter, built as builtBy, allBy, finalBy}
 use Rattle.insertion.proofs.SafeEnds.{all-same}
 use Rattle.insertion.proofs.SafeEdges.{between}
-use Rattle.insertion.proofs.BuiltLaws.{Safe, safe-sound, safe-insert, safe-built}
-use Rattle.walk.specs.Guarantee.{Accepted, acceptedFrom, accepted}
+use Rattle.insertion.proofs.BuiltLaws.{Safe, safe-sound, safe-empty, safe-insert}
+use Rattle.walk.specs.Guarantee.{Accepted, acceptedFrom, accepted, Bytes}
 use Rattle.walk.proofs.LinkViews.{takeBy}
-use Rattle.walk.proofs.GrownViews.{Seen, grownAt, grown-at, callAt, grown-seen}
+use Rattle.walk.proofs.GrownViews.{Seen, isFar, grownAt, grown-at, callAt, grown-seen}
 use Rattle.walk.proofs.Nets.{Net, Take, nothing, every, these, Call, flip, back, insert, run, ranks, empty as emptyNet}
 use Rattle.walk.proofs.NetRuns.{Ranked, back-before, ranked-run, run-size, empty-ranked}
 
@@ -57,10 +57,10 @@ map-snoc : {A B : Type 0} (f : A → B) (l : List A) (o : A) → map f (l ++ (o 
 map-snoc f [] o = refl
 map-snoc f (x ∷ l) o = ap (λ (t : List _). f x ∷ t) (map-snoc f l o)
 
-run-snoc : (N : Net) (l : List Call) (c : Call) → run false N (l ++ (c ∷ [])) ≡ insert false (run false N l) c
+run-snoc : (farAll : Bool) (N : Net) (l : List Call) (c : Call) → run farAll N (l ++ (c ∷ [])) ≡ insert farAll (run farAll N l) c
 unfolding run
-run-snoc N [] c = refl
-run-snoc N (x ∷ l) c = run-snoc (insert false N x) l c
+run-snoc farAll N [] c = refl
+run-snoc farAll N (x ∷ l) c = run-snoc farAll (insert farAll N x) l c
 
 -- ---- places
 
@@ -92,17 +92,17 @@ takeOf o = takeBy (qubitsOf (o .bytes))
 abbrev pub callOf : Accepted → Call
 callOf o = callAt (front (o .bytes)) (o .bytes)
 
-abbrev pub netOf : List Accepted → Net
-netOf l = run false emptyNet (map callOf l)
+abbrev pub netOf : Bool → List Accepted → Net
+netOf farAll l = run farAll emptyNet (map callOf l)
 
-net-snoc : (l : List Accepted) (o : Accepted) → netOf (l ++ (o ∷ [])) ≡ insert false (netOf l) (callOf o)
-net-snoc l o = ap (run false emptyNet) (map-snoc callOf l o) ∙ run-snoc emptyNet (map callOf l) (callOf o)
+net-snoc : (farAll : Bool) (l : List Accepted) (o : Accepted) → netOf farAll (l ++ (o ∷ [])) ≡ insert farAll (netOf farAll l) (callOf o)
+net-snoc farAll l o = ap (run farAll emptyNet) (map-snoc callOf l o) ∙ run-snoc farAll emptyNet (map callOf l) (callOf o)
 
-pub net-size : (l : List Accepted) → netOf l .size ≡ length l
-net-size l = run-size false emptyNet (map callOf l) ∙ (let z = length-map l callOf in omega arith)
+pub net-size : (farAll : Bool) (l : List Accepted) → netOf farAll l .size ≡ length l
+net-size farAll l = run-size farAll emptyNet (map callOf l) ∙ (let z = length-map l callOf in omega arith)
 
-pub net-ranked : (l : List Accepted) → Ranked (netOf l) (ranks 0 (λ u. 0) (map callOf l))
-net-ranked l = ranked-run false emptyNet (λ u. 0) (map callOf l) empty-ranked
+pub net-ranked : (farAll : Bool) (l : List Accepted) → Ranked (netOf farAll l) (ranks 0 (λ u. 0) (map callOf l))
+net-ranked farAll l = ranked-run farAll emptyNet (λ u. 0) (map callOf l) empty-ranked
 
 -- one that stands in no list
 abbrev pub noRecord : Accepted
@@ -111,37 +111,42 @@ noRecord = record { node = 0; place = pos 0; bytes = [] }
 abbrev pub at : List Accepted → ℕ → Accepted
 at l u = getD l u noRecord
 
--- what a list of insertions has led to
-pub record Built (g : CircuitDag) (l : List Accepted) : Type 0 where
+-- what a list of insertions by one rule has led to
+pub record Built (farAll : Bool) (g : CircuitDag) (l : List Accepted) : Type 0 where
   pub safe : Safe false g
-  pub seen : Seen g (netOf l)
+  pub seen : Seen g (netOf farAll l)
   pub long : length l ≡ size g
   pub nodes : (u : ℕ) → u < length l → at l u .node ≡ u
   pub within : (u : ℕ) → u < length l → between (g .backs) (g .fronts) (at l u .place) ≡ true
-  pub order : (u v : ℕ) → u < length l → v < length l → netOf l .before u v ≡ ltZ (at l u .place) (at l v .place)
-  pub takes : (u : ℕ) → netOf l .take u ≡ takeOf (at l u)
+  pub order : (u v : ℕ) → u < length l → v < length l → netOf farAll l .before u v ≡ ltZ (at l u .place) (at l v .place)
+  pub takes : (u : ℕ) → netOf farAll l .take u ≡ takeOf (at l u)
   pub rule : (u : ℕ) → u < length l → recordRule (at l u .bytes) ≡ true
   pub bytes : (u : ℕ) → u < length l → allOf (λ b. ltb b 256) (at l u .bytes) ≡ true
 
-insert-take : (N : Net) (c : Call) (u : ℕ) → insert false N c .take u ≡ cond (eqb u (N .size)) (c .takes) (N .take u)
-insert-take N c u = ⊎-elim (λ (e : c .front ≡ true). rw e (go (flip N) (c .takes))) (λ (e : c .front ≡ false). rw e (go N (c .takes))) (bool-cases (c .front))
+insert-take : (farAll : Bool) (N : Net) (c : Call) (u : ℕ) → insert farAll N c .take u ≡ cond (eqb u (N .size)) (c .takes) (N .take u)
+insert-take farAll N c u = ⊎-elim (λ (e : c .front ≡ true). rw e (go (flip N) (c .takes))) (λ (e : c .front ≡ false). rw e (go N (c .takes))) (bool-cases (c .front))
   where
-    go : (M : Net) (t : Take) → back false M t .take u ≡ cond (eqb u (M .size)) t (M .take u)
+    go : (M : Net) (t : Take) → back farAll M t .take u ≡ cond (eqb u (M .size)) t (M .take u)
     go M nothing = refl
     go M every = refl
     go M (these m) = refl
 
-insert-before : (N : Net) (c : Call) (u v : ℕ) → insert false N c .before u v ≡ (N .before u v || cond (c .front) (eqb u (N .size) && ltb v (N .size)) (eqb v (N .size) && ltb u (N .size)))
-insert-before N c u v = ⊎-elim
-    (λ (e : c .front ≡ true). rw e (back-before false (flip N) (c .takes) v u))
-    (λ (e : c .front ≡ false). rw e (back-before false N (c .takes) u v))
+insert-before : (farAll : Bool) (N : Net) (c : Call) (u v : ℕ)
+    → insert farAll N c .before u v ≡ (N .before u v || cond (c .front) (eqb u (N .size) && ltb v (N .size)) (eqb v (N .size) && ltb u (N .size)))
+insert-before farAll N c u v = ⊎-elim
+    (λ (e : c .front ≡ true). rw e (back-before farAll (flip N) (c .takes) v u))
+    (λ (e : c .front ≡ false). rw e (back-before farAll N (c .takes) u v))
     (bool-cases (c .front))
 
 -- the place of the next record
 abbrev pub nextPlace : Bool → CircuitDag → ℤ
 nextPlace b g = cond b (negsuc (g .fronts)) (pos (g .backs))
 
-module _ (g : CircuitDag) (l : List Accepted) (T : Built g l) (s : List ℕ) (low : size g < 512) (keeps : recordRule s ≡ true)
+grown-size : (farAll b : Bool) (g : CircuitDag) (s : List ℕ) → size (grownAt farAll b g s) ≡ size g + 1
+grown-size farAll true g s = refl
+grown-size farAll false g s = refl
+
+module _ (farAll : Bool) (g : CircuitDag) (l : List Accepted) (T : Built farAll g l) (s : List ℕ) (low : size g < 512) (keeps : recordRule s ≡ true)
     (small : allOf (λ b. ltb b 256) s ≡ true) (o : Accepted) (is-node : o .node ≡ size g) (is-place : o .place ≡ nextPlace (front s) g) (is-bytes : o .bytes ≡ s) where
   abbrev l′ : List Accepted
   l′ = l ++ (o ∷ [])
@@ -156,11 +161,11 @@ module _ (g : CircuitDag) (l : List Accepted) (T : Built g l) (s : List ℕ) (lo
     | no e ↦ (let k : u < n = omega (arith, h, snoc-length l o noRecord, e) in subst (λ (x : Accepted). P u x) (sym (snoc-old l o noRecord u k)) (f u k))
   ]
 
-  no-before : (u v : ℕ) → (u < n → v < n → ⊥) → netOf l .before u v ≡ false
-  no-before u v h = not-true (λ e. let r = net-ranked l .up u v e in let z = net-size l in h (omega (arith, r .0)) (omega (arith, r .1)))
+  no-before : (u v : ℕ) → (u < n → v < n → ⊥) → netOf farAll l .before u v ≡ false
+  no-before u v h = not-true (λ e. let r = net-ranked farAll l .up u v e in let z = net-size farAll l in h (omega (arith, r .0)) (omega (arith, r .1)))
 
   new-order : (b : Bool) → front s ≡ b → (u v : ℕ) → u < n + 1 → v < n + 1
-      → (netOf l .before u v || cond b (eqb u n && ltb v n) (eqb v n && ltb u n)) ≡ ltZ (at l′ u .place) (at l′ v .place)
+      → (netOf farAll l .before u v || cond b (eqb u n && ltb v n) (eqb v n && ltb u n)) ≡ ltZ (at l′ u .place) (at l′ v .place)
   new-order b f u v k m = elim (ℕ-discrete u n) [
     | yes e ↦ elim (ℕ-discrete v n) [
       | yes e′ ↦ rw (no-before u v (λ a c. omega arith), snoc-new l o noRecord u e, snoc-new l o noRecord v e′, eq-eqb u n e, eq-eqb v n e′, le-ltb u n (omega arith), le-ltb v n (omega arith)) (both b ∙ sym (not-self (o .place)))
@@ -186,28 +191,24 @@ module _ (g : CircuitDag) (l : List Accepted) (T : Built g l) (s : List ℕ) (lo
       second true u q = sym (front-below (g .backs) (g .fronts) (at l u .place) (T .within u q) .1)
       second false u q = sym (back-above (g .backs) (g .fronts) (at l u .place) (T .within u q) .0)
 
-      neither : (b : Bool) → (netOf l .before u v || cond b false false) ≡ netOf l .before u v
-      neither b = rw (both b) (or-false (netOf l .before u v))
+      neither : (b : Bool) → (netOf farAll l .before u v || cond b false false) ≡ netOf farAll l .before u v
+      neither b = rw (both b) (or-false (netOf farAll l .before u v))
 
   abbrev g′ : CircuitDag
-  g′ = grownAt (front s) g s
+  g′ = grownAt farAll (front s) g s
 
-  net-new : netOf l′ ≡ insert false (netOf l) (callAt (front s) s)
-  net-new = net-snoc l o ∙ ap (λ (t : List ℕ). insert false (netOf l) (callAt (front t) t)) is-bytes
+  net-new : netOf farAll l′ ≡ insert farAll (netOf farAll l) (callAt (front s) s)
+  net-new = net-snoc farAll l o ∙ ap (λ (t : List ℕ). insert farAll (netOf farAll l) (callAt (front t) t)) is-bytes
 
-  grown-size : (b : Bool) → size (grownAt b g s) ≡ size g + 1
-  grown-size true = refl
-  grown-size false = refl
-
-  grown-between : (b : Bool) (p : ℤ) → between (g .backs) (g .fronts) p ≡ true → between (grownAt b g s .backs) (grownAt b g s .fronts) p ≡ true
+  grown-between : (b : Bool) (p : ℤ) → between (g .backs) (g .fronts) p ≡ true → between (grownAt farAll b g s .backs) (grownAt farAll b g s .fronts) p ≡ true
   grown-between true p h = between-front (g .backs) (g .fronts) p h
   grown-between false p h = between-back (g .backs) (g .fronts) p h
 
-  new-between : (b : Bool) → between (grownAt b g s .backs) (grownAt b g s .fronts) (nextPlace b g) ≡ true
+  new-between : (b : Bool) → between (grownAt farAll b g s .backs) (grownAt farAll b g s .fronts) (nextPlace b g) ≡ true
   new-between true = lt-ltb (g .fronts) (g .fronts + 1) (omega arith)
   new-between false = lt-ltb (g .backs) (g .backs + 1) (omega arith)
 
-  new-takes : (u : ℕ) → cond (eqb u n) (takeBy (qubitsOf s)) (netOf l .take u) ≡ takeOf (at l′ u)
+  new-takes : (u : ℕ) → cond (eqb u n) (takeBy (qubitsOf s)) (netOf farAll l .take u) ≡ takeOf (at l′ u)
   new-takes u = elim (ℕ-discrete u n) [
     | yes e ↦ rw (eq-eqb u n e, snoc-new l o noRecord u e, is-bytes) refl
     | no e ↦ rw (ne-eqb u n e) (T .takes u ∙ ap takeOf (other e))
@@ -219,79 +220,110 @@ module _ (g : CircuitDag) (l : List Accepted) (T : Built g l) (s : List ℕ) (lo
         | no k ↦ List·getD-eq-default l noRecord {n = u} (omega arith) ∙ sym (snoc-past l o noRecord u (omega arith))
       ]
 
-  pub built-more : Safe false g′ → Built g′ l′
+  pub built-more : Safe false g′ → Built farAll g′ l′
   built-more G = record {
     safe = G;
-    seen = subst (λ (N : Net). Seen g′ N) (sym net-new) (grown-seen g s (T .safe) low (front s) (netOf l) (T .seen));
-    long = snoc-length l o noRecord ∙ ap (λ (k : ℕ). k + 1) (T .long) ∙ sym (grown-size (front s));
+    seen = subst (λ (N : Net). Seen g′ N) (sym net-new) (grown-seen g s (T .safe) low farAll (front s) (netOf farAll l) (T .seen));
+    long = snoc-length l o noRecord ∙ ap (λ (k : ℕ). k + 1) (T .long) ∙ sym (grown-size farAll (front s) g s);
     nodes = each (λ u x. x .node ≡ u) (T .nodes) (is-node ∙ sym (T .long));
     within = each (λ u x. between (g′ .backs) (g′ .fronts) (x .place) ≡ true) (λ u k. grown-between (front s) (at l u .place) (T .within u k))
         (ap (between (g′ .backs) (g′ .fronts)) is-place ∙ new-between (front s));
-    order = λ u v k m. ap (λ (N : Net). N .before u v) net-new ∙ insert-before (netOf l) (callAt (front s) s) u v
-        ∙ ap (λ (k : ℕ). netOf l .before u v || cond (front s) (eqb u k && ltb v k) (eqb v k && ltb u k)) (net-size l)
+    order = λ u v k m. ap (λ (N : Net). N .before u v) net-new ∙ insert-before farAll (netOf farAll l) (callAt (front s) s) u v
+        ∙ ap (λ (k : ℕ). netOf farAll l .before u v || cond (front s) (eqb u k && ltb v k) (eqb v k && ltb u k)) (net-size farAll l)
         ∙ new-order (front s) refl u v (omega (arith, k, snoc-length l o noRecord)) (omega (arith, m, snoc-length l o noRecord));
-    takes = λ u. ap (λ (N : Net). N .take u) net-new ∙ insert-take (netOf l) (callAt (front s) s) u
-        ∙ ap (λ (k : ℕ). cond (eqb u k) (takeBy (qubitsOf s)) (netOf l .take u)) (net-size l) ∙ new-takes u;
+    takes = λ u. ap (λ (N : Net). N .take u) net-new ∙ insert-take farAll (netOf farAll l) (callAt (front s) s) u
+        ∙ ap (λ (k : ℕ). cond (eqb u k) (takeBy (qubitsOf s)) (netOf farAll l .take u)) (net-size farAll l) ∙ new-takes u;
     rule = each (λ u x. recordRule (x .bytes) ≡ true) (T .rule) (ap recordRule is-bytes ∙ keeps);
     bytes = each (λ u x. allOf (λ b. ltb b 256) (x .bytes) ≡ true) (T .bytes) (ap (allOf (λ b. ltb b 256)) is-bytes ∙ small);
   }
 
 -- ---- an insertion, and a list of them
 
-insert-told : (g : CircuitDag) (s : List ℕ) → sound g ≡ true → (P : Inserted → Type 0) → ((r : Refusal) → P (refused r g))
-    → (recordRule s ≡ true → size g < 512 → P (record { answer = Node (node (size g)); graph = grown nearAll g s })) → P (insertOf g s)
-unfolding insertBy insertAs
-insert-told g s h P p q = rw h (go (not (recordRule s)) (leb 512 (size g)) (edgesPass nearAll g s) (registersPass g s) refl refl)
-  where
-    go : (a b c d : Bool) → not (recordRule s) ≡ a → leb 512 (size g) ≡ b
-        → P (cond a (refused (BadRecord 0) g) (cond b (refused TooManyNodes g) (cond c (refused (TooManyEdges 0) g) (cond d (refused (TooManyRegisters 0) g) (record { answer = Node (node (size g)); graph = grown nearAll g s })))))
-    go true b c d e f = p (BadRecord 0)
-    go false true c d e f = p TooManyNodes
-    go false false true d e f = p (TooManyEdges 0)
-    go false false false true e f = p (TooManyRegisters 0)
-    go false false false false e f = q (told-true (recordRule s) e) (leb-false 512 (size g) f)
+module _ (rule : LoadingRule) (g : CircuitDag) (s : List ℕ) where
+  insert-told : sound g ≡ true → (P : Inserted → Type 0) → ((r : Refusal) → P (refused r g))
+      → (recordRule s ≡ true → size g < 512 → P (record { answer = Node (node (size g)); graph = grown (ruleOf rule) g s })) → P (insertBy rule g s)
+  unfolding insertBy insertAs
+  insert-told h P p q = rw h (go (not (recordRule s)) (leb 512 (size g)) (edgesPass (ruleOf rule) g s) (registersPass g s) refl refl)
+    where
+      go : (a b c d : Bool) → not (recordRule s) ≡ a → leb 512 (size g) ≡ b
+          → P (cond a (refused (BadRecord 0) g) (cond b (refused TooManyNodes g) (cond c (refused (TooManyEdges 0) g) (cond d (refused (TooManyRegisters 0) g)
+          (record { answer = Node (node (size g)); graph = grown (ruleOf rule) g s })))))
+      go true b c d e f = p (BadRecord 0)
+      go false true c d e f = p TooManyNodes
+      go false false true d e f = p (TooManyEdges 0)
+      go false false false true e f = p (TooManyRegisters 0)
+      go false false false false e f = q (told-true (recordRule s) e) (leb-false 512 (size g) f)
 
 -- the accepted records of s ∷ l, by what the insertion of s gave
-abbrev acceptStep : ℕ → ℕ → List ℕ → List (List ℕ) → Inserted → List Accepted
+abbrev acceptStep : ℕ → ℕ → List ℕ → List Insertion → Inserted → List Accepted
 acceptStep b f s l x = elim (x .answer) [
   | Node v ↦ record { node = b + f; place = cond (front s) (negsuc f) (pos b); bytes = s } ∷ acceptedFrom (x .graph) (cond (front s) b (b + 1)) (cond (front s) (f + 1) f) l
   | Refused r ↦ acceptedFrom (x .graph) b f l
 ]
 
-built-from : (l : List (List ℕ)) (g : CircuitDag) (b f : ℕ) (d : List Accepted) → Built g d → b ≡ g .backs → f ≡ g .fronts
-    → allOf (allOf (λ b. ltb b 256)) l ≡ true → Built (graphAfter g (allBy NearAll l)) (d ++ acceptedFrom g b f l)
+-- a node for each accepted record, by whatever rules they come in
+count-from : (l : List Insertion) (g : CircuitDag) (b f : ℕ) → Safe false g → size (graphAfter g l) ≡ size g + length (acceptedFrom g b f l)
 unfolding graphAfter acceptedFrom
-built-from [] g b f d T p q h = subst (λ (x : List Accepted). Built g x) (sym (append-nil d)) T
-built-from (s ∷ l) g b f d T p q h = insert-told g s (safe-sound g (T .safe))
-    (λ x. Safe false (x .graph) → Built (graphAfter (x .graph) (allBy NearAll l)) (d ++ acceptStep b f s l x))
-    (λ r G. built-from l g b f d T p q rest)
-    (λ k low G.
-    let e = grown-at g s in
-    let o : Accepted = record { node = b + f; place = cond (front s) (negsuc f) (pos b); bytes = s } in
-    let t = built-more g d T s low k here o ((λ i. p i + q i) ∙ T .safe .nodes .ends) (λ i. cond (front s) (negsuc (q i)) (pos (p i))) refl (subst (λ (x : CircuitDag). Safe false x) e G) in
-    subst (λ (x : List Accepted). Built (graphAfter (grown nearAll g s) (allBy NearAll l)) x) (append-assoc d (o ∷ []) _)
-    (built-from l (grown nearAll g s) (cond (front s) b (b + 1)) (cond (front s) (f + 1) f) (d ++ (o ∷ [])) (subst (λ (x : CircuitDag). Built x (d ++ (o ∷ []))) (sym e) t)
-    (backs (front s) ∙ sym (ap (λ (x : CircuitDag). x .backs) e)) (fronts (front s) ∙ sym (ap (λ (x : CircuitDag). x .fronts) e)) rest))
-    (safe-insert NearAll g s (T .safe))
+count-from [] g b f G = omega arith
+count-from (c ∷ l) g b f G = insert-told (c .rule) g s (safe-sound g G)
+    (λ x. Safe false (x .graph) → size (graphAfter (x .graph) l) ≡ size g + length (acceptStep b f s l x))
+    (λ r G. count-from l g b f G)
+    (λ k low H.
+    let e = ap size (grown-at (c .rule) g s) ∙ grown-size (isFar (c .rule)) (front s) g s in
+    let r = count-from l (grown (ruleOf (c .rule)) g s) (cond (front s) b (b + 1)) (cond (front s) (f + 1) f) H in
+    omega (arith, e, r))
+    (safe-insert (c .rule) g s G)
   where
-    here : allOf (λ b. ltb b 256) s ≡ true
-    here = ⊎-elim (λ (t : allOf (λ b. ltb b 256) s ≡ true). t) (λ (t : allOf (λ b. ltb b 256) s ≡ false). absurd (clash-bool h (all-fails (allOf (λ b. ltb b 256)) s l t))) (bool-cases (allOf (λ b. ltb b 256) s))
+    s : List ℕ
+    s = c .bytes
 
-    rest : allOf (allOf (λ b. ltb b 256)) l ≡ true
-    rest = sym (all-here (allOf (λ b. ltb b 256)) s l here) ∙ h
+pub built-size : (l : List Insertion) → size (builtBy l) ≡ length (accepted l)
+unfolding empty
+built-size l = omega (arith, count-from l empty 0 0 safe-empty)
 
-    backs : (c : Bool) → cond c b (b + 1) ≡ grownAt c g s .backs
-    backs true = p
-    backs false = ap (λ (k : ℕ). k + 1) p
+module _ (rule : LoadingRule) where
+  abbrev farAll : Bool
+  farAll = isFar rule
 
-    fronts : (c : Bool) → cond c (f + 1) f ≡ grownAt c g s .fronts
-    fronts true = ap (λ (k : ℕ). k + 1) q
-    fronts false = q
+  built-from : (l : List (List ℕ)) (g : CircuitDag) (b f : ℕ) (d : List Accepted) → Built farAll g d → b ≡ g .backs → f ≡ g .fronts
+      → Bytes l → Built farAll (graphAfter g (allBy rule l)) (d ++ acceptedFrom g b f (allBy rule l))
+  unfolding graphAfter acceptedFrom
+  built-from [] g b f d T p q h = subst (λ (x : List Accepted). Built farAll g x) (sym (append-nil d)) T
+  built-from (s ∷ l) g b f d T p q h = insert-told rule g s (safe-sound g (T .safe))
+      (λ x. Safe false (x .graph) → Built farAll (graphAfter (x .graph) (allBy rule l)) (d ++ acceptStep b f s (allBy rule l) x))
+      (λ r G. built-from l g b f d T p q rest)
+      (λ k low G.
+      let e = grown-at rule g s in
+      let o : Accepted = record { node = b + f; place = cond (front s) (negsuc f) (pos b); bytes = s } in
+      let n : b + f ≡ size g = (λ i. p i + q i) ∙ T .safe .nodes .ends in
+      let t = built-more farAll g d T s low k here o n (λ i. cond (front s) (negsuc (q i)) (pos (p i))) refl (subst (λ (x : CircuitDag). Safe false x) e G) in
+      subst (λ (x : List Accepted). Built farAll (graphAfter (grown (ruleOf rule) g s) (allBy rule l)) x) (append-assoc d (o ∷ []) _)
+      (built-from l (grown (ruleOf rule) g s) (cond (front s) b (b + 1)) (cond (front s) (f + 1) f) (d ++ (o ∷ []))
+      (subst (λ (x : CircuitDag). Built farAll x (d ++ (o ∷ []))) (sym e) t)
+      (backs (front s) ∙ sym (ap (λ (x : CircuitDag). x .backs) e)) (fronts (front s) ∙ sym (ap (λ (x : CircuitDag). x .fronts) e)) rest))
+      (safe-insert rule g s (T .safe))
+    where
+      here : allOf (λ b. ltb b 256) s ≡ true
+      here = ⊎-elim
+          (λ (t : allOf (λ b. ltb b 256) s ≡ true). t)
+          (λ (t : allOf (λ b. ltb b 256) s ≡ false). absurd (clash-bool h (all-fails (allOf (λ b. ltb b 256)) s l t)))
+          (bool-cases (allOf (λ b. ltb b 256) s))
 
-built-empty : Built empty []
+      rest : Bytes l
+      rest = sym (all-here (allOf (λ b. ltb b 256)) s l here) ∙ h
+
+      backs : (c : Bool) → cond c b (b + 1) ≡ grownAt farAll c g s .backs
+      backs true = p
+      backs false = ap (λ (k : ℕ). k + 1) p
+
+      fronts : (c : Bool) → cond c (f + 1) f ≡ grownAt farAll c g s .fronts
+      fronts true = ap (λ (k : ℕ). k + 1) q
+      fronts false = q
+
+built-empty : (farAll : Bool) → Built farAll empty []
 unfolding empty noEnd run graphAfter anyOf countFrom qubitsBy
-built-empty = record {
-  safe = safe-built [];
+built-empty farAll = record {
+  safe = safe-empty;
   seen = record {
     size = refl;
     edges = λ a b. refl;
@@ -311,7 +343,7 @@ built-empty = record {
   bytes = λ u k. absurd (omega arith);
 }
 
--- every list of insertions on the empty graph
-pub built : (l : List (List ℕ)) → allOf (allOf (λ b. ltb b 256)) l ≡ true → Built (final l) (accepted l)
+-- every list of insertions by one rule on the empty graph
+pub built : (rule : LoadingRule) (l : List (List ℕ)) → Bytes l → Built (isFar rule) (finalBy rule l) (accepted (allBy rule l))
 unfolding empty
-built l h = built-from l empty 0 0 [] built-empty refl refl h
+built rule l h = built-from rule l empty 0 0 [] (built-empty (isFar rule)) refl refl h

@@ -9,18 +9,19 @@ use lib.Dec.{eqb, ltb, leb}
 use lib.Signed.{ltZ}
 use lib.ListN.{length, getD, drop, List·getD-append}
 use borrow.Author.Tests.{eqb-true, eq-eqb, lt-ltb, ltb-true, le-ltb}
-use Rattle.file.specs.Lists.{anyOf, keep, member, onto, allOf}
+use Rattle.file.specs.Lists.{anyOf, keep, member, onto}
 use Rattle.file.specs.declared.Refusal.the-variants.{ShortBuffer, BadRecord, TooManyNodes, TooManyEdges, TooManyRegisters}
 use Rattle.graph.specs.declared.CircuitDag.{CircuitDag}
 use Rattle.graph.specs.Dag.{absent, size, hasEdge, node}
 use Rattle.graph.specs.Soundness.{sound}
 use Rattle.file.proofs.BoolLaws.{bool-cases, clash-bool, not-true, bool-ext, and-l, and-r, eqb-flip}
-use Rattle.graph.proofs.ListLaws.{any-here, any-later, keep-any, member-keep, length-upTo, upTo-at, all-append}
-use Rattle.insertion.specs.Calls.{allBy, final}
+use Rattle.graph.proofs.ListLaws.{any-here, any-later, keep-any, member-keep, length-upTo, upTo-at}
+use Rattle.insertion.specs.Calls.{Call, built as builtBy, allBy, finalBy}
 use Rattle.insertion.proofs.BuiltLaws.{sound-built}
 use Rattle.file.specs.Records.{recordRule}
 use Rattle.graph.specs.declared.NodeIndex.{NodeIndex}
-use Rattle.links.specs.Links.{nearAll}
+use Rattle.links.specs.Links.{FarRule, ruleOf}
+use Rattle.links.specs.declared.LoadingRule.{LoadingRule}
 use Rattle.links.specs.declared.LoadingRule.the-variants.{NearAll}
 use Rattle.insertion.specs.declared.Answer.the-variants.{Node}
 use Rattle.insertion.specs.declared.Inserted.{Inserted}
@@ -28,15 +29,16 @@ use Rattle.insertion.specs.Insertion.{grown}
 use Rattle.insertion.specs.Limits.{refused, edgesPass, registersPass, insertAs}
 use Rattle.walk.specs.declared.BlockCount.the-variants.{Blocks, Refused as NotWalked}
 use Rattle.walk.specs.Blocks.{Walked, blocks, numberFrom, blockNumbers, wholeWalk}
-use Rattle.walk.specs.Guarantee.{Accepted, accepted, takesQubits, operations, Condition, Each, Orders, different, stateAfter, blockOfStep}
-use Rattle.walk.specs.Guarantee.{entry, filled, Guarantee, Demand3}
+use Rattle.walk.specs.Guarantee.{Accepted, accepted, takesQubits, operations, Each, Orders, different, stateAfter, blockOfStep}
+use Rattle.walk.specs.Guarantee.{entry, filled, Bytes, Guarantee, Demand3}
 use Rattle.walk.proofs.Bounds.{any, any-elim, any-ext, greatest, greatest-le, count}
 use Rattle.walk.proofs.Heights.{Guarantee as Guaranteed, Keeps, block, steps, number, different as differentIn}
 use Rattle.walk.proofs.Nets.{Net, isOp, clashes, Base}
 use Rattle.walk.proofs.NetRuns.{Kept, kept, net-base}
 use Rattle.walk.proofs.BlockSteps.{Within, sound-within, any-list, block-at, count-at, number-in, number-out}
 use Rattle.walk.proofs.CountLaws.{count-ext, different-count}
-use Rattle.walk.proofs.AcceptedNets.{callOf, netOf, net-size, net-ranked, noRecord, at, Built, built}
+use Rattle.walk.proofs.GrownViews.{isFar}
+use Rattle.walk.proofs.AcceptedNets.{callOf, netOf, net-size, net-ranked, noRecord, at, Built, built-size, built}
 use Rattle.walk.proofs.RecordTakes.{takes-qubits, clash-is, nonempties, one-all}
 
 -- ---- each of a list
@@ -92,35 +94,38 @@ module _ (g : CircuitDag) (s : sound g ≡ true) (buffer : List ℕ) where
       ∙ upTo-at (numberFrom 0 (blocks g)) (size g) v absent l
 
 -- the number that an accepted record answers
-number-of : (g : CircuitDag) (s : List ℕ) (v : NodeIndex) → insertAs nearAll 0 g s .answer ≡ Node v → size g ≡ v .0
+number-of : (rule : FarRule) (g : CircuitDag) (s : List ℕ) (v : NodeIndex) → insertAs rule 0 g s .answer ≡ Node v → size g ≡ v .0
 unfolding insertAs
-number-of g s v = by (not (recordRule s)) (leb 512 (size g)) (edgesPass nearAll g s) (registersPass g s)
+number-of rule g s v = by (not (recordRule s)) (leb 512 (size g)) (edgesPass rule g s) (registersPass g s)
   where
-    by : (a b c d : Bool) → cond a (refused (BadRecord 0) g) (cond b (refused TooManyNodes g) (cond c (refused (TooManyEdges 0) g) (cond d (refused (TooManyRegisters 0) g) (record { answer = Node (node (size g)); graph = grown nearAll g s })))) .answer ≡ Node v → size g ≡ v .0
+    by : (a b c d : Bool) → cond a (refused (BadRecord 0) g) (cond b (refused TooManyNodes g) (cond c (refused (TooManyEdges 0) g) (cond d (refused (TooManyRegisters 0) g)
+        (record { answer = Node (node (size g)); graph = grown rule g s })))) .answer ≡ Node v → size g ≡ v .0
     by true b c d e = let z : _≡_ {A = ℕ} 0 1 = cc in absurd (omega arith)
     by false true c d e = let z : _≡_ {A = ℕ} 0 1 = cc in absurd (omega arith)
     by false false true d e = let z : _≡_ {A = ℕ} 0 1 = cc in absurd (omega arith)
     by false false false true e = let z : _≡_ {A = ℕ} 0 1 = cc in absurd (omega arith)
     by false false false false e = cc
 
-module _ (l : List (List ℕ)) (buffer : List ℕ) (C : Condition l) (room : size (final l) ≤ length buffer) where
+-- the guarantee for records inserted by one rule, whose net keeps the invariant
+module _ (rule : LoadingRule) (l : List (List ℕ)) (buffer : List ℕ) (bytes : Bytes l) (B : Base (netOf (isFar rule) (accepted (allBy rule l))))
+    (room : size (finalBy rule l) ≤ length buffer) where
+  abbrev calls : List Call
+  calls = allBy rule l
+
   abbrev g : CircuitDag
-  g = final l
+  g = finalBy rule l
 
   abbrev done : List Accepted
-  done = accepted l
+  done = accepted calls
 
-  T : Built g done
-  T = built l (C .bytes)
+  T : Built (isFar rule) g done
+  T = built rule l bytes
 
   W : Within g
-  W = sound-within g (sound-built (allBy NearAll l) .sound)
+  W = sound-within g (sound-built calls .sound)
 
   abbrev N : Net
-  N = netOf done
-
-  B : Base N
-  B = net-base (map callOf done) (nonempties done (T .rule) (T .bytes) (C .nonempty)) (one-all done (T .rule) (T .bytes) (C .one-all))
+  N = netOf (isFar rule) done
 
   abbrev op : ℕ → Bool
   op u = isOp (N .take u)
@@ -138,8 +143,8 @@ module _ (l : List (List ℕ)) (buffer : List ℕ) (C : Condition l) (room : siz
   firstOf v = getD (g .first .block) v false
 
   net-kept : Kept N earlier
-  net-kept = kept N _ earlier (let z = net-size done in omega (arith, T .long, T .safe .nodes .count)) B (net-ranked done)
-      (λ u v k m. let z = net-size done in sym (T .order u v (omega arith) (omega arith)))
+  net-kept = kept N _ earlier (let z = net-size (isFar rule) done in omega (arith, T .long, T .safe .nodes .count)) B (net-ranked (isFar rule) done)
+      (λ u v k m. let z = net-size (isFar rule) done in sym (T .order u v (omega arith) (omega arith)))
 
   K : Guaranteed (size g) op clashing earlier edgeOf firstOf
   K = subst (λ (f : ℕ → Bool). Guaranteed (size g) op clashing earlier edgeOf f) (λ i v. T .seen .heads v i)
@@ -147,7 +152,7 @@ module _ (l : List (List ℕ)) (buffer : List ℕ) (C : Condition l) (room : siz
       (subst (λ (n : ℕ). Guaranteed n op clashing earlier (N .edge) (N .head)) (T .seen .size) net-kept))
 
   low : (u : ℕ) → op u ≡ true → u < length done
-  low u h = let z = net-size done in omega (arith, B .low u h)
+  low u h = let z = net-size (isFar rule) done in omega (arith, B .low u h)
 
   op-is : (u : ℕ) → u < length done → op u ≡ takesQubits (at done u .bytes)
   op-is u k = ap isOp (T .takes u) ∙ takes-qubits (at done u .bytes) (T .rule u k)
@@ -156,10 +161,10 @@ module _ (l : List (List ℕ)) (buffer : List ℕ) (C : Condition l) (room : siz
   num = number (size g) edgeOf firstOf
 
   abbrev written : ℕ → ℕ
-  written = entry l buffer
+  written = entry calls buffer
 
   sound-g : sound g ≡ true
-  sound-g = sound-built (allBy NearAll l) .sound
+  sound-g = sound-built calls .sound
 
   -- the entry is the number of the walk on sets
   entry-is : (v : ℕ) → v < length done → written v ≡ num v
@@ -174,7 +179,7 @@ module _ (l : List (List ℕ)) (buffer : List ℕ) (C : Condition l) (room : siz
   steps-is = let z = count-at g W (size g) 0 in omega arith
 
   -- "The count returned is how many different numbers below 65535 were written."
-  filled-is : filled l buffer ≡ steps (size g) edgeOf firstOf
+  filled-is : filled calls buffer ≡ steps (size g) edgeOf firstOf
   filled-is =
       different-count 65535 (keep (λ k. ltb k 65535) numbers) (λ x m. ltb-true x 65535 (and-l (ltb x 65535) (member x numbers) (sym (member-keep (λ k. ltb k 65535) x numbers) ∙ m)))
       ∙ count-ext 65535 _ _ (λ k b. member-keep (λ k. ltb k 65535) k numbers ∙ rw (lt-ltb k 65535 b) (among k))
@@ -193,7 +198,7 @@ module _ (l : List (List ℕ)) (buffer : List ℕ) (C : Condition l) (room : siz
   takesBy o = takesQubits (o .bytes)
 
   -- a numbering that orders the operations, as one of nodes
-  keeps-of : (rival : ℕ → ℕ) → Orders rival (operations l) → Keeps op clashing earlier rival
+  keeps-of : (rival : ℕ → ℕ) → Orders rival (operations calls) → Keeps op clashing earlier rival
   keeps-of rival h u v a b c e =
       let ku = low u a in
       let kv = low v b in
@@ -204,7 +209,7 @@ module _ (l : List (List ℕ)) (buffer : List ℕ) (C : Condition l) (room : siz
       let r = y (clash-is (at done u .bytes) (at done v .bytes) (T .rule u ku) (T .rule v kv) tu tv ∙ (λ i. clashes (sym (T .takes u) i) (sym (T .takes v) i)) ∙ c) e in
       subst (λ (k : ℕ). rival u < rival k) (T .nodes v kv) (subst (λ (k : ℕ). rival k < rival (at done v .node)) (T .nodes u ku) r)
 
-  order-of : Orders written (operations l)
+  order-of : Orders written (operations calls)
   order-of = each-kept takesBy _ done (λ u ku tu. each-kept takesBy _ done (λ v kv tv c e.
       let a = op-is u ku ∙ tu in
       let b = op-is v kv ∙ tv in
@@ -212,7 +217,7 @@ module _ (l : List (List ℕ)) (buffer : List ℕ) (C : Condition l) (room : siz
       subst (λ (x : ℕ). x < written (at done v .node)) (sym (ap written (T .nodes u ku) ∙ entry-is u ku))
       (subst (λ (x : ℕ). num u < x) (sym (ap written (T .nodes v kv) ∙ entry-is v kv)) k)))
 
-  once-of : Each (λ o. (t : ℕ) → member (o .node) (blockOfStep g t) ≡ eqb t (written (o .node))) (operations l)
+  once-of : Each (λ o. (t : ℕ) → member (o .node) (blockOfStep g t) ≡ eqb t (written (o .node))) (operations calls)
   once-of = each-kept takesBy _ done (λ u ku tu t.
       let a = op-is u ku ∙ tu in
       subst (λ (k : ℕ). member k (blockOfStep g t) ≡ eqb t (written k)) (sym (T .nodes u ku))
@@ -223,13 +228,13 @@ module _ (l : List (List ℕ)) (buffer : List ℕ) (C : Condition l) (room : siz
   others-of : Each (λ o. takesQubits (o .bytes) ≡ false → written (o .node) ≡ 65535) done
   others-of = each-all _ done (λ u ku h. ap written (T .nodes u ku) ∙ entry-is u ku ∙ K .others u (op-is u ku ∙ h))
 
-  lowest-of : (rival : ℕ → ℕ) → Orders rival (operations l) → Each (λ o. written (o .node) ≤ rival (o .node)) (operations l)
+  lowest-of : (rival : ℕ → ℕ) → Orders rival (operations calls) → Each (λ o. written (o .node) ≤ rival (o .node)) (operations calls)
   lowest-of rival h = each-kept takesBy _ done (λ u ku tu.
       subst (λ (k : ℕ). written k ≤ rival k) (sym (T .nodes u ku))
       (subst (λ (x : ℕ). x ≤ rival u) (sym (entry-is u ku)) (K .least rival (keeps-of rival h) u (op-is u ku ∙ tu))))
 
   -- how many different numbers a rival has
-  rival-is : (rival : ℕ → ℕ) → different (map rival (map (λ (o : Accepted). o .node) (operations l))) [] ≡ differentIn (size g) op rival
+  rival-is : (rival : ℕ → ℕ) → different (map rival (map (λ (o : Accepted). o .node) (operations calls))) [] ≡ differentIn (size g) op rival
   unfolding differentIn
   rival-is rival = different-count top numbers below ∙ count-ext top _ _ (λ k b. among k)
     where
@@ -237,10 +242,10 @@ module _ (l : List (List ℕ)) (buffer : List ℕ) (C : Condition l) (room : siz
       top = suc (greatest (size g) (λ v. cond (op v) (rival v) 0))
 
       numbers : List ℕ
-      numbers = map rival (map (λ (o : Accepted). o .node) (operations l))
+      numbers = map rival (map (λ (o : Accepted). o .node) (operations calls))
 
       among : (k : ℕ) → member k numbers ≡ any (size g) (λ v. op v && eqb (rival v) k)
-      among k = ap (member k) (map-map rival (operations l)) ∙ member-map (λ (o : Accepted). rival (o .node)) (operations l) k
+      among k = ap (member k) (map-map rival (operations calls)) ∙ member-map (λ (o : Accepted). rival (o .node)) (operations calls) k
           ∙ keep-any takesBy (λ (o : Accepted). eqb k (rival (o .node))) done
           ∙ any-list (λ (o : Accepted). takesBy o && eqb k (rival (o .node))) done noRecord (size g) (T .long)
           ∙ any-ext (size g) _ _ (λ v b. let c : v < length done = (let z = T .long in omega arith) in
@@ -255,11 +260,12 @@ module _ (l : List (List ℕ)) (buffer : List ℕ) (C : Condition l) (room : siz
           let y : rival (r .0) ≤ greatest (size g) (λ v. cond (op v) (rival v) 0) = rw o at z in
           omega arith
 
-  guaranteed : Guarantee l buffer
+  guaranteed : Guarantee calls buffer
   guaranteed = record {
-    calls = λ before rest s e. sound-built (allBy NearAll before) .never NearAll s;
-    numbers = λ before rest s v e a. sym (number-of (final before) s v (sym (ap (λ (x : Inserted). x .answer) (sound-built (allBy NearAll before) .never NearAll s)) ∙ a))
-        ∙ sym (built before (and-l _ _ (sym (all-append (allOf (λ b. ltb b 256)) before (s ∷ rest)) ∙ (rw e at (C .bytes)))) .long);
+    calls = λ before rest c e. sound-built before .never (c .rule) (c .bytes);
+    numbers = λ before rest c v e a.
+        let here = ap (λ (x : Inserted). x .answer) (sound-built before .never (c .rule) (c .bytes)) in
+        sym (number-of (ruleOf (c .rule)) (builtBy before) (c .bytes) v (sym here ∙ a)) ∙ built-size before;
     nodes = sym (T .long);
     count = ap (λ (x : Walked). x .answer) (walk-done g sound-g buffer room) ∙ ap Blocks (steps-is ∙ sym filled-is);
     once = once-of;
@@ -272,6 +278,10 @@ module _ (l : List (List ℕ)) (buffer : List ℕ) (C : Condition l) (room : siz
 -- every list of insertions on the empty graph within the condition has a walk with the whole guarantee
 pub demand-3 : Demand3
 demand-3 = record {
-  short = λ l buffer C h. walk-short (final l) (sound-built (allBy NearAll l) .sound) buffer h;
-  whole = λ l buffer C room. guaranteed l buffer C room;
+  short = λ l buffer C h. walk-short (finalBy NearAll l) (sound-built (allBy NearAll l) .sound) buffer h;
+  whole = λ l buffer C room.
+      let done = accepted (allBy NearAll l) in
+      let T = built NearAll l (C .bytes) in
+      let e = nonempties done (T .rule) (T .bytes) (C .nonempty) in
+      guaranteed NearAll l buffer (C .bytes) (net-base (map callOf done) e (one-all done (T .rule) (T .bytes) (C .one-all))) room;
 }

@@ -19,13 +19,13 @@ use Rattle.graph.specs.declared.End.{End}
 use Rattle.graph.specs.Dag.{absent, present, orElse, node, atQubit}
 use Rattle.file.proofs.BoolLaws.{bool-cases, clash-bool, not-true, bool-ext, and-l, and-r, and-intro, or-cases, or-inl, or-inr, flip-not, eqb-same, eqb-flip}
 use Rattle.graph.proofs.ListLaws.{any-here, any-later, any-at, at-any, any-snoc, distinct-first, distinct-rest}
-use Rattle.links.specs.Links.{Linked, nearAll, source, nearAfter, noQubit, qubitsFrom, qubits, linkQubits, linkSet, mapped, linkAll, linkBy}
+use Rattle.links.specs.Links.{Linked, FarRule, source, nearAfter, noQubit, qubitsFrom, qubits, linkQubits, linkSet, mapped, linkAll, linkBy}
 use Rattle.links.proofs.QubitLaws.{qubits-ascend}
 use Rattle.links.proofs.LinkLaws.{addPresent, linkOne, ascend-distinct, set-entries, set-outside, farEntry}
 use Rattle.insertion.proofs.SafeEnds.{all-same}
 use Rattle.walk.proofs.Bounds.{any, any-intro, any-elim, any-and, and-any, any-ext, any-none, none-any}
 use Rattle.walk.proofs.BlockSteps.{any-list, not-empty, empty-not}
-use Rattle.walk.proofs.Nets.{Net, Take, nothing, every, these, is, orElse as else, present as isSome, or, source as sourceIn, backThese}
+use Rattle.walk.proofs.Nets.{Net, Take, nothing, every, these, is, orElse as else, present as isSome, or, source as sourceIn, far as farIn, backThese}
 use Rattle.walk.proofs.Nets.{backEvery, backNothing, back, noQubits}
 
 -- ---- an entry that may be absent
@@ -148,19 +148,20 @@ module _ (v : ℕ) where
   source-other : (near : End) (q j : ℕ) → (j ≡ q → ⊥) → source (nearAfter near q v) j ≡ source near j
   source-other near q j h = ap (λ (u : ℕ). orElse u (near .all .0)) (getD-set-other (near .node) q j v absent h)
 
-  link-all : (qs : List ℕ) (x : Linked) → (linkQubits nearAll qs v x .near .all ≡ x .near .all) × (linkQubits nearAll qs v x .far .all ≡ x .far .all) × (linkQubits nearAll qs v x .far .block ≡ x .far .block)
+  link-all : (rule : FarRule) (qs : List ℕ) (x : Linked)
+      → (linkQubits rule qs v x .near .all ≡ x .near .all) × (linkQubits rule qs v x .far .all ≡ x .far .all) × (linkQubits rule qs v x .far .block ≡ x .far .block)
   unfolding linkQubits
-  link-all [] x = (refl, refl, refl)
-  link-all (q ∷ qs) x = link-all qs (linkOne nearAll v q x)
+  link-all rule [] x = (refl, refl, refl)
+  link-all rule (q ∷ qs) x = link-all rule qs (linkOne rule v q x)
 
   others-other : (near : End) (q u : ℕ) (qs : List ℕ) → member q qs ≡ false → anyOf (λ j. isAt (source (nearAfter near q v) j) u) qs ≡ anyOf (λ j. isAt (source near j) u) qs
   others-other near q u qs m = any-cong qs _ _ (λ j i. ap (λ (s : ℕ). isAt s u) (source-other near q j (λ (e : j ≡ q). clash-bool (rw e at i) m)))
 
-  link-others : (qs : List ℕ) (x : Linked) → distinct eqb qs ≡ true → (a : ℕ)
-      → member a (linkQubits nearAll qs v x .others) ≡ (member a (x .others) || anyOf (λ q. isAt (source (x .near) q) a) qs)
+  link-others : (rule : FarRule) (qs : List ℕ) (x : Linked) → distinct eqb qs ≡ true → (a : ℕ)
+      → member a (linkQubits rule qs v x .others) ≡ (member a (x .others) || anyOf (λ q. isAt (source (x .near) q) a) qs)
   unfolding linkQubits anyOf
-  link-others [] x d a = sym (or-false (member a (x .others)))
-  link-others (q ∷ qs) x d a = link-others qs (linkOne nearAll v q x) (distinct-rest eqb q qs d) a
+  link-others rule [] x d a = sym (or-false (member a (x .others)))
+  link-others rule (q ∷ qs) x d a = link-others rule qs (linkOne rule v q x) (distinct-rest eqb q qs d) a
       ∙ (λ i. member-add a (source (x .near) q) (x .others) i || others-other (x .near) q a qs (distinct-first eqb q qs d) i)
       ∙ or-assoc (member a (x .others)) (isAt (source (x .near) q) a) _
       ∙ ap (λ (b : Bool). member a (x .others) || b) (sym (any-cons (λ q. isAt (source (x .near) q) a) q qs))
@@ -202,13 +203,13 @@ module _ (v : ℕ) where
   nil-table false true = refl
   nil-table false false = refl
 
-  link-block : (qs : List ℕ) (x : Linked) → distinct eqb qs ≡ true → v < 512 → length (x .near .block) ≡ 512
+  link-block : (rule : FarRule) (qs : List ℕ) (x : Linked) → distinct eqb qs ≡ true → v < 512 → length (x .near .block) ≡ 512
       → ((q : ℕ) → present (source (x .near) q) ≡ true → source (x .near) q < 512) → (u : ℕ)
-      → getD (linkQubits nearAll qs v x .near .block) u false
+      → getD (linkQubits rule qs v x .near .block) u false
       ≡ ((eqb u v && not (isEmpty qs)) || (getD (x .near .block) u false && not (anyOf (λ q. isAt (source (x .near) q) u) qs)))
   unfolding linkQubits anyOf
-  link-block [] x d l n s u = nil-table (eqb u v) (getD (x .near .block) u false)
-  link-block (q ∷ qs) x d l n s u = link-block qs (linkOne nearAll v q x) (distinct-rest eqb q qs d) l length-one after u
+  link-block rule [] x d l n s u = nil-table (eqb u v) (getD (x .near .block) u false)
+  link-block rule (q ∷ qs) x d l n s u = link-block rule qs (linkOne rule v q x) (distinct-rest eqb q qs d) l length-one after u
       ∙ (λ i. (eqb u v && not (isEmpty qs)) || (block-one (x .near) q u l n (s q) i && not (others-other (x .near) q u qs (distinct-first eqb q qs d) i)))
       ∙ tail-table (eqb u v) (not (isEmpty qs)) (getD (x .near .block) u false) (isAt (source (x .near) q) u) (anyOf (λ j. isAt (source (x .near) j) u) qs) (some-in qs)
       ∙ ap (λ (b : Bool). (eqb u v && true) || (getD (x .near .block) u false && not b)) (sym (any-cons (λ j. isAt (source (x .near) j) u) q qs))
@@ -254,6 +255,10 @@ pub record Fits (n : ℕ) (near far : End) : Type 0 where
   pub all : present (near .all .0) ≡ true → near .all .0 < n
   pub members : (u : ℕ) → getD (far .block) u false ≡ true → u < n
 
+-- the rule that a net's `farAll` stands for
+abbrev pub ruleFor : Bool → FarRule
+ruleFor farAll near far = cond farAll (far .all .0) (near .all .0)
+
 -- the edges with n's new ones from the others
 abbrev pub joinedEdges : ℕ → (ℕ → ℕ → Bool) → List ℕ → ℕ → ℕ → Bool
 joinedEdges n E others a b = E a b || (eqb b n && member a others)
@@ -282,12 +287,12 @@ module _ (n : ℕ) (E : ℕ → ℕ → Bool) (near far : End) (N : Net) (S : Se
     heads = S .heads;
   }
 
-  module _ (m : ℕ) where
+  module _ (farAll : Bool) (m : ℕ) where
     abbrev began : Linked
     began = record { near = near; far = far; others = [] }
 
     abbrev x : Linked
-    x = linkSet nearAll m n near far
+    x = linkSet (ruleFor farAll) m n near far
 
     once : distinct eqb (qubits m) ≡ true
     once = ascend-distinct (qubits m) (qubits-ascend 64 0 m)
@@ -298,7 +303,7 @@ module _ (n : ℕ) (E : ℕ → ℕ → Bool) (near far : End) (N : Net) (S : Se
     set-others a =
         any-ext 64 _ _ (λ q l. ap (λ (b : Bool). has m q && b) (ap (λ (o : Option ℕ). is o a) (source-is q l) ∙ found-is (source near q) a))
         ∙ sym (has-any m (λ q. isAt (source near q) a))
-        ∙ sym (link-others n (qubits m) began once a)
+        ∙ sym (link-others n (ruleFor farAll) (qubits m) began once a)
 
     set-pointed : any 64 (λ q. has m q && isSome (sourceIn N q)) ≡ not (isEmpty (x .others))
     set-pointed = bool-ext _ _
@@ -320,28 +325,33 @@ module _ (n : ℕ) (E : ℕ → ℕ → Bool) (near far : End) (N : Net) (S : Se
     set-lasts : (q : ℕ) → q < 64 → cond (has m q) (some (N .size)) (N .last q) ≡ found (atQubit (x .near) q)
     set-lasts q l = ⊎-elim
         (λ (e : has m q ≡ true). rw e (ap some (S .size) ∙ sym (found-low n (F .low))
-        ∙ ap found (sym (set-entries nearAll (λ a b c d. refl) m n q near far e (omega (arith, F .near-nodes)) (omega (arith, F .far-nodes)) .0))))
-        (λ (e : has m q ≡ false). rw e (S .lasts q l ∙ ap found (sym (set-outside nearAll m n q near far e .0))))
+        ∙ ap found (sym (set-entries (ruleFor farAll) (λ a b c d. refl) m n q near far e (omega (arith, F .near-nodes)) (omega (arith, F .far-nodes)) .0))))
+        (λ (e : has m q ≡ false). rw e (S .lasts q l ∙ ap found (sym (set-outside (ruleFor farAll) m n q near far e .0))))
         (bool-cases (has m q))
 
-    set-firsts : (q : ℕ) → q < 64 → cond (has m q && not (isSome (N .last q))) (some (or (N .lastAll) (N .size))) (N .first q) ≡ found (atQubit (x .far) q)
+    set-firsts : (q : ℕ) → q < 64 → cond (has m q && not (isSome (N .last q))) (some (farIn farAll N (N .size))) (N .first q) ≡ found (atQubit (x .far) q)
     set-firsts q l = ⊎-elim
         (λ (e : has m q ≡ true). rw e (new (present (atQubit near q)) refl
-        ∙ ap found (sym (set-entries nearAll (λ a b c d. refl) m n q near far e (omega (arith, F .near-nodes)) (omega (arith, F .far-nodes)) .1))))
-        (λ (e : has m q ≡ false). rw e (S .firsts q l ∙ ap found (sym (set-outside nearAll m n q near far e .1))))
+        ∙ ap found (sym (set-entries (ruleFor farAll) (λ a b c d. refl) m n q near far e (omega (arith, F .near-nodes)) (omega (arith, F .far-nodes)) .1))))
+        (λ (e : has m q ≡ false). rw e (S .firsts q l ∙ ap found (sym (set-outside (ruleFor farAll) m n q near far e .1))))
         (bool-cases (has m q))
       where
         known : isSome (N .last q) ≡ present (atQubit near q)
         known = ap isSome (S .lasts q l) ∙ found-some (atQubit near q)
 
-        new : (b : Bool) → present (atQubit near q) ≡ b → cond (not (isSome (N .last q))) (some (or (N .lastAll) (N .size))) (N .first q) ≡ found (farEntry nearAll near far n q)
+        fresh : (b : Bool) → some (farIn b N (N .size)) ≡ found (orElse (ruleFor b near far) n)
+        fresh true = (λ i. some (or (S .first-all i) (S .size i))) ∙ found-or (far .all .0) n (F .low)
+        fresh false = (λ i. some (or (S .last-all i) (S .size i))) ∙ found-or (near .all .0) n (F .low)
+
+        new : (b : Bool) → present (atQubit near q) ≡ b
+            → cond (not (isSome (N .last q))) (some (farIn farAll N (N .size))) (N .first q) ≡ found (farEntry (ruleFor farAll) near far n q)
         new true e = rw (known ∙ e, e) (S .firsts q l)
-        new false e = rw (known ∙ e, e) ((λ i. some (or (S .last-all i) (S .size i))) ∙ found-or (near .all .0) n (F .low))
+        new false e = rw (known ∙ e, e) (fresh farAll)
 
     set-heads : (u : ℕ) → (N .head u || (eqb u (N .size) && not (any 64 (λ q. has m q && isSome (sourceIn N q))))) ≡ getD (x .far .block) u false
     unfolding linkSet
     set-heads u = (λ i. S .heads u i || (eqb u (S .size i) && not (set-pointed i))) ∙ go (isEmpty (x .others))
-        ∙ ap (λ (b : List Bool). getD (cond (isEmpty (x .others)) (set b n true) b) u false) (sym (link-all n (qubits m) began .2))
+        ∙ ap (λ (b : List Bool). getD (cond (isEmpty (x .others)) (set b n true) b) u false) (sym (link-all n (ruleFor farAll) (qubits m) began .2))
       where
         go : (b : Bool) → (getD (far .block) u false || (eqb u n && not (not b))) ≡ getD (cond b (set (far .block) n true) (far .block)) u false
         go true = block-joins (far .block) n u (omega (arith, F .far-block, F .low))
@@ -350,21 +360,21 @@ module _ (n : ℕ) (E : ℕ → ℕ → Bool) (near far : End) (N : Net) (S : Se
     set-tails : (u : ℕ) → ((eqb u (N .size) && any 64 (has m)) || (N .tail u && not (any 64 (λ q. has m q && is (sourceIn N q) u)))) ≡ getD (x .near .block) u false
     unfolding linkSet
     set-tails u = (λ i. (eqb u (S .size i) && has-some m i) || (S .tails u i && not (sources i)))
-        ∙ sym (link-block n (qubits m) began once (F .low) (F .near-block) source-low u)
+        ∙ sym (link-block n (ruleFor farAll) (qubits m) began once (F .low) (F .near-block) source-low u)
       where
         sources : any 64 (λ q. has m q && is (sourceIn N q) u) ≡ anyOf (λ q. isAt (source near q) u) (qubits m)
         sources = any-ext 64 _ _ (λ q l. ap (λ (b : Bool). has m q && b) (ap (λ (o : Option ℕ). is o u) (source-is q l) ∙ found-is (source near q) u))
             ∙ sym (has-any m (λ q. isAt (source near q) u))
 
-    pub set-sees : Sees (n + 1) (joinedEdges n E (x .others)) (x .near) (x .far) (backThese false N (has m))
+    pub set-sees : Sees (n + 1) (joinedEdges n E (x .others)) (x .near) (x .far) (backThese farAll N (has m))
     unfolding linkSet
     set-sees = record {
       size = (let e = S .size in omega arith);
       edges = λ a b. λ i. S .edges a b i || (eqb b (S .size i) && set-others a i);
       lasts = set-lasts;
       firsts = set-firsts;
-      last-all = S .last-all ∙ ap (λ (v : _). found (v .0)) (sym (link-all n (qubits m) began .0));
-      first-all = S .first-all ∙ ap (λ (v : _). found (v .0)) (sym (link-all n (qubits m) began .1));
+      last-all = S .last-all ∙ ap (λ (v : _). found (v .0)) (sym (link-all n (ruleFor farAll) (qubits m) began .0));
+      first-all = S .first-all ∙ ap (λ (v : _). found (v .0)) (sym (link-all n (ruleFor farAll) (qubits m) began .1));
       tails = set-tails;
       heads = set-heads;
     }
@@ -485,8 +495,8 @@ takeBy None = nothing
 takeBy All = every
 takeBy (Set m) = these (has m)
 
-pub link-sees : (k : InvolvedQubits) (n : ℕ) (E : ℕ → ℕ → Bool) (near far : End) (N : Net) → Sees n E near far N → Fits n near far
-    → Sees (n + 1) (joinedEdges n E (linkBy k nearAll n near far .others)) (linkBy k nearAll n near far .near) (linkBy k nearAll n near far .far) (back false N (takeBy k))
-link-sees None n E near far N S F = none-sees n E near far N S F
-link-sees All n E near far N S F = all-sees n E near far N S F
-link-sees (Set m) n E near far N S F = set-sees n E near far N S F m
+pub link-sees : (farAll : Bool) (k : InvolvedQubits) (n : ℕ) (E : ℕ → ℕ → Bool) (near far : End) (N : Net) → Sees n E near far N → Fits n near far
+    → let x = linkBy k (ruleFor farAll) n near far in Sees (n + 1) (joinedEdges n E (x .others)) (x .near) (x .far) (back farAll N (takeBy k))
+link-sees farAll None n E near far N S F = none-sees n E near far N S F
+link-sees farAll All n E near far N S F = all-sees n E near far N S F
+link-sees farAll (Set m) n E near far N S F = set-sees n E near far N S F farAll m

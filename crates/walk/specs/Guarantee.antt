@@ -15,9 +15,11 @@ use Rattle.graph.specs.declared.NodeIndex.{NodeIndex}
 use Rattle.graph.specs.declared.CircuitDag.{CircuitDag}
 use Rattle.insertion.specs.declared.Answer.the-variants.{Node, Refused}
 use Rattle.graph.specs.Dag.{absent, empty, size}
-use Rattle.links.specs.Links.{nearAll, qubits}
-use Rattle.insertion.specs.Limits.{insertAs, insertOf}
-use Rattle.insertion.specs.Calls.{final}
+use Rattle.links.specs.declared.LoadingRule.{LoadingRule}
+use Rattle.links.specs.declared.LoadingRule.the-variants.{NearAll}
+use Rattle.links.specs.Links.{ruleOf, qubits}
+use Rattle.insertion.specs.Limits.{insertAs, insertBy}
+use Rattle.insertion.specs.Calls.{Call, built, allBy, finalBy}
 use Rattle.walk.specs.declared.ParallelBlocks.{ParallelBlocks}
 use Rattle.walk.specs.declared.BlockCount.the-variants.{Blocks, Refused as NotWalked}
 use Rattle.walk.specs.Blocks.{start, nextBlock, nextState, wholeWalk}
@@ -30,16 +32,16 @@ pub record Accepted : Type 0 where
 
 -- "Node numbers run from 0 in order of insertion. The k-th back insertion has place k - 1, the k-th front insertion place -k; a refused one is
 -- counted nowhere": the accepted records of a list, after b back and f front insertions
-unfoldable pub acceptedFrom : CircuitDag → ℕ → ℕ → List (List ℕ) → List Accepted
+unfoldable pub acceptedFrom : CircuitDag → ℕ → ℕ → List Call → List Accepted
 acceptedFrom g b f [] = []
-acceptedFrom g b f (s ∷ l) = let x = insertOf g s in elim (x .answer) [
+acceptedFrom g b f (c ∷ l) = let s = c .bytes in let x = insertBy (c .rule) g s in elim (x .answer) [
   | Node v ↦ record { node = b + f; place = cond (front s) (negsuc f) (pos b); bytes = s }
       ∷ acceptedFrom (x .graph) (cond (front s) b (b + 1)) (cond (front s) (f + 1) f) l
   | Refused r ↦ acceptedFrom (x .graph) b f l
 ]
 
 -- .. on the empty graph
-abbrev pub accepted : List (List ℕ) → List Accepted
+abbrev pub accepted : List Call → List Accepted
 accepted l = acceptedFrom empty 0 0 l
 
 -- "What an operation takes is read from its record, never from the graph: only form All takes all qubits, and only a Set with mask zero is an empty set."
@@ -55,20 +57,23 @@ abbrev pub emptySet : List ℕ → Bool
 emptySet s = eqb (qubitForm s) 2 && eqb (mask s) 0
 
 -- the accepted qubit operations
-abbrev pub operations : List (List ℕ) → List Accepted
+abbrev pub operations : List Call → List Accepted
 operations l = keep (λ (o : Accepted). takesQubits (o .bytes)) (accepted l)
+
+-- The records are bytes, numbers below 256. They may be any bytes: a record that breaks its rule is refused and does not count.
+abbrev pub Bytes : List (List ℕ) → Type 0
+Bytes l = allOf (allOf (λ b. ltb b 256)) l ≡ true
 
 -- "no accepted operation has an empty qubit set and, where qubit operations are accepted at both ends, at most one of them takes all qubits"
 pub record Condition (l : List (List ℕ)) : Type 0 where
-  -- The records are bytes, numbers below 256. They may be any bytes: a record that breaks its rule is refused and does not count.
-  pub bytes : allOf (allOf (λ b. ltb b 256)) l ≡ true
+  pub bytes : Bytes l
   -- No accepted operation has an empty qubit set: a pulse on nothing would hide the all-qubit pulse behind it (case 6 of the bench table).
-  pub nonempty : anyOf (λ (o : Accepted). emptySet (o .bytes)) (operations l) ≡ false
+  pub nonempty : anyOf (λ (o : Accepted). emptySet (o .bytes)) (operations (allBy NearAll l)) ≡ false
   -- Where qubit operations came in at both ends, at most one of them takes all qubits. With two, the graph loses an order (case 5).
   -- With operations at one end only there is no such condition.
-  pub one-all : anyOf (λ (o : Accepted). front (o .bytes)) (operations l) ≡ true
-      → anyOf (λ (o : Accepted). not (front (o .bytes))) (operations l) ≡ true
-      → length (keep (λ (o : Accepted). takesAll (o .bytes)) (operations l)) ≤ 1
+  pub one-all : let ops = operations (allBy NearAll l) in anyOf (λ (o : Accepted). front (o .bytes)) ops ≡ true
+      → anyOf (λ (o : Accepted). not (front (o .bytes))) ops ≡ true
+      → length (keep (λ (o : Accepted). takesAll (o .bytes)) ops) ≤ 1
 
 -- "Two qubit operations clash if they share a qubit or one takes all."
 abbrev pub clash : List ℕ → List ℕ → Bool
@@ -98,30 +103,31 @@ abbrev pub blockOfStep : CircuitDag → ℕ → List ℕ
 blockOfStep g t = nextBlock g (stateAfter g t)
 
 -- what the whole walk wrote for node v
-abbrev pub entry : List (List ℕ) → List ℕ → ℕ → ℕ
-entry l buffer v = getD (wholeWalk (final l) buffer .buffer) v absent
+abbrev pub entry : List Call → List ℕ → ℕ → ℕ
+entry l buffer v = getD (wholeWalk (built l) buffer .buffer) v absent
 
 -- "The count returned is how many different numbers below 65535 were written."
-abbrev pub filled : List (List ℕ) → List ℕ → ℕ
+abbrev pub filled : List Call → List ℕ → ℕ
 filled l buffer = different (keep (λ k. ltb k 65535) (map (entry l buffer) (map (λ (o : Accepted). o .node) (accepted l)))) []
 
--- after the list l, with a buffer that has room for an entry a node
-pub record Guarantee (l : List (List ℕ)) (buffer : List ℕ) : Type 0 where
+-- after the calls of l, with a buffer that has room for an entry a node
+pub record Guarantee (l : List Call) (buffer : List ℕ) : Type 0 where
   -- "Each call is accepted or refused exactly as document 01 says". At every place of the list the insertion goes by the rules from
   -- cause 4 on, on the graph that the calls before it left; cause 11, an unsound graph, never comes.
-  pub calls : (before rest : List (List ℕ)) (s : List ℕ) → l ≡ before ++ (s ∷ rest) → insertOf (final before) s ≡ insertAs nearAll 0 (final before) s
+  pub calls : (before rest : List Call) (c : Call) → l ≡ before ++ (c ∷ rest)
+      → insertBy (c .rule) (built before) (c .bytes) ≡ insertAs (ruleOf (c .rule)) 0 (built before) (c .bytes)
   -- "Node numbers run from 0 in order of insertion." A call that accepts its record answers the number by which `accepted`, and so the
   -- walk's entries below, go: how many records were accepted before it.
-  pub numbers : (before rest : List (List ℕ)) (s : List ℕ) (v : NodeIndex) → l ≡ before ++ (s ∷ rest)
-      → insertOf (final before) s .answer ≡ Node v → v .0 ≡ length (accepted before)
+  pub numbers : (before rest : List Call) (c : Call) (v : NodeIndex) → l ≡ before ++ (c ∷ rest)
+      → insertBy (c .rule) (built before) (c .bytes) .answer ≡ Node v → v .0 ≡ length (accepted before)
   -- The graph has a node for each accepted record and no other, so the entries of the walk are about just these.
-  pub nodes : size (final l) ≡ length (accepted l)
+  pub nodes : size (built l) ≡ length (accepted l)
   -- "The walk counts exactly the blocks it filled". The whole walk is not refused, and the count that it returns is how many different
   -- block numbers it wrote.
-  pub count : wholeWalk (final l) buffer .answer ≡ Blocks (filled l buffer)
+  pub count : wholeWalk (built l) buffer .answer ≡ Blocks (filled l buffer)
   -- "each accepted qubit operation is in the block of exactly one step, its entry is that step's number, counted from 0". Of all steps t,
   -- however far one goes on, the operation is in the block of step t exactly if t is its entry: no pulse is lost, none fires twice.
-  pub once : Each (λ o. (t : ℕ) → member (o .node) (blockOfStep (final l) t) ≡ eqb t (entry l buffer (o .node))) (operations l)
+  pub once : Each (λ o. (t : ℕ) → member (o .node) (blockOfStep (built l) t) ≡ eqb t (entry l buffer (o .node))) (operations l)
   -- "and other nodes get 65535". What takes no qubit (definitions, register records) fires in no block.
   pub others : Each (λ o. takesQubits (o .bytes) ≡ false → entry l buffer (o .node) ≡ 65535) (accepted l)
   -- "of two clashing ones the earlier in the circuit into the earlier block". Two pulses that share a qubit, or of which one takes all,
@@ -135,8 +141,13 @@ pub record Guarantee (l : List (List ℕ)) (buffer : List ℕ) : Type 0 where
   pub fewest : (rival : ℕ → ℕ) → Orders rival (operations l)
       → filled l buffer ≤ different (map rival (map (λ (o : Accepted). o .node) (operations l))) []
 
--- Demand 3, for every list of insertions within the condition. "On the final graph the whole walk is refused only for a short buffer.
+-- For every list of records, inserted by one rule, that meets a condition: "On the final graph the whole walk is refused only for a short buffer.
 -- Otherwise ..": the guarantee above holds.
-pub record Demand3 : Type 0 where
-  pub short : (l : List (List ℕ)) (buffer : List ℕ) → Condition l → length buffer < size (final l) → wholeWalk (final l) buffer .answer ≡ NotWalked ShortBuffer
-  pub whole : (l : List (List ℕ)) (buffer : List ℕ) → Condition l → size (final l) ≤ length buffer → Guarantee l buffer
+pub record Guaranteed (rule : LoadingRule) (Meets : List (List ℕ) → Type 0) : Type 0 where
+  pub short : (l : List (List ℕ)) (buffer : List ℕ) → Meets l → length buffer < size (finalBy rule l)
+      → wholeWalk (finalBy rule l) buffer .answer ≡ NotWalked ShortBuffer
+  pub whole : (l : List (List ℕ)) (buffer : List ℕ) → Meets l → size (finalBy rule l) ≤ length buffer → Guarantee (allBy rule l) buffer
+
+-- Demand 3: document 01's insertions, within the condition
+abbrev pub Demand3 : Type 0
+Demand3 = Guaranteed NearAll Condition
