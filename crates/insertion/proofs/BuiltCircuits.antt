@@ -10,9 +10,7 @@ use Rattle.file.specs.declared.FileCheck.the-variants.{Sound, Refused as BadFil
 use Rattle.graph.specs.declared.CircuitDag.{CircuitDag}
 use Rattle.graph.specs.Dag.{empty}
 use Rattle.queries.proofs.CircuitTheorems.{circuit-whole, circuit-in-order}
-use Rattle.links.specs.Links.{FarRule, nearAll, ruleOf}
-use Rattle.links.specs.declared.LoadingRule.{LoadingRule}
-use Rattle.links.specs.declared.LoadingRule.the-variants.{NearAll}
+use Rattle.links.specs.Links.{FarRule, nearAll, LoadingRule, NearAll, ruleOf}
 use Rattle.links.proofs.LinkLaws.{NamesAll, names-all}
 use Rattle.insertion.specs.declared.Answer.{Answer}
 use Rattle.insertion.specs.declared.Answer.the-variants.{Node, Refused}

@@ -23,14 +23,13 @@ use Rattle.file.proofs.BoolLaws.{clash-bool, or-l, or-r}
 use Rattle.graph.proofs.SoundnessLaws.{NamesFit, RegistersFit, registers-told, told-sound}
 use Rattle.insertion.specs.declared.Answer.the-variants.{Node, Refused}
 use Rattle.insertion.specs.declared.Inserted.{Inserted}
-use Rattle.links.specs.Links.{Linked, FarRule, ruleOf, link, withEdges}
+use Rattle.links.specs.Links.{Linked, FarRule, LoadingRule, ruleOf, link, withEdges}
 use Rattle.registers.specs.Registers.{withEntries}
 use Rattle.insertion.specs.Insertion.{facing, placeAfter, linked, registered, commutes, withCommuting, grown}
 use Rattle.registers.specs.Registers.{Maps}
 use Rattle.insertion.specs.Limits.{refused, edgesPass, registersPass, insertAs, insertBy}
 use Rattle.insertion.specs.Calls.{Call, graphAfter, built}
 use Rattle.insertion.specs.Built.{SoundBuilt}
-use Rattle.links.specs.declared.LoadingRule.{LoadingRule}
 use Rattle.links.proofs.LinkLaws.{NamesAll, names-all, others-distinct}
 use Rattle.registers.proofs.RegisterLaws.{fits-none}
 use Rattle.insertion.proofs.SafeEnds.{all-same, Side, Joins, named-old, near-side, far-side, joins-by}

@@ -27,9 +27,7 @@ use Rattle.insertion.specs.declared.Answer.the-variants.{Node, Refused}
 use Rattle.insertion.specs.declared.Inserted.{Inserted}
 use Rattle.file.specs.declared.Outcome.the-variants.{Done}
 use Rattle.insertion.specs.declared.Loaded.{Loaded}
-use Rattle.links.specs.Links.{FarRule, ruleOf}
-use Rattle.links.specs.declared.LoadingRule.{LoadingRule}
-use Rattle.links.specs.declared.LoadingRule.the-variants.{NearAll}
+use Rattle.links.specs.Links.{FarRule, LoadingRule, NearAll, ruleOf}
 use Rattle.insertion.specs.Insertion.{grown}
 use Rattle.insertion.specs.Limits.{accepts, insertAs, insertBy, refused, edgesPass, registersPass}
 use Rattle.insertion.specs.Load.{notLoaded, insertRecords, loadChecked, loadBy}

@@ -22,8 +22,7 @@ use Rattle.graph.proofs.SoundnessLaws.{Sound, sound-told, sound-clauses, all-le
 use Rattle.file.specs.declared.Outcome.{Outcome}
 use Rattle.file.specs.declared.Outcome.the-variants.{Done, Refused}
 use Rattle.links.specs.declared.LinkedRecords.{LinkedRecords}
-use Rattle.links.specs.Links.{FarRule, ruleOf}
-use Rattle.links.specs.declared.LoadingRule.{LoadingRule}
+use Rattle.links.specs.Links.{FarRule, LoadingRule, ruleOf}
 use Rattle.links.specs.Linking.{linksFit, linksStopped, linkRecord, linksKept, linkNode}
 use Rattle.links.proofs.LinkingLaws.{when-done}
 use Rattle.registers.specs.declared.Registered.{Registered}

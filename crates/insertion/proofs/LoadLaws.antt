@@ -18,8 +18,7 @@ use Rattle.graph.specs.Dag.{empty}
 use Rattle.graph.proofs.ListLaws.{length-countFrom, at-all}
 use Rattle.file.specs.declared.Outcome.the-variants.{Done, Refused}
 use Rattle.links.specs.declared.LinkedRecords.{LinkedRecords}
-use Rattle.links.specs.Links.{FarRule, ruleOf}
-use Rattle.links.specs.declared.LoadingRule.{LoadingRule}
+use Rattle.links.specs.Links.{FarRule, LoadingRule, ruleOf}
 use Rattle.links.specs.Linking.{noLinks, linkRecords}
 use Rattle.registers.specs.declared.Registered.{Registered}
 use Rattle.registers.specs.declared.RegisteredRecords.{RegisteredRecords}

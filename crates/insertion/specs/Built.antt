@@ -17,9 +17,7 @@ use Rattle.insertion.specs.declared.Answer.the-variants.{Refused}
 use Rattle.insertion.specs.declared.Inserted.{Inserted}
 use Rattle.insertion.specs.declared.Loaded.{Loaded}
 use Rattle.file.specs.declared.Outcome.the-variants.{Done}
-use Rattle.links.specs.Links.{ruleOf}
-use Rattle.links.specs.declared.LoadingRule.{LoadingRule}
-use Rattle.links.specs.declared.LoadingRule.the-variants.{NearAll}
+use Rattle.links.specs.Links.{LoadingRule, NearAll, ruleOf}
 use Rattle.insertion.specs.Limits.{accepts, insertAs, insertBy}
 use Rattle.insertion.specs.Load.{notLoaded, loadBy}
 use Rattle.insertion.specs.Calls.{Call, built, finalBy}

@@ -3,8 +3,7 @@ use mathlib.Core.List.{List, [], _∷_, map}
 use Prim.Native.Nat.{ℕ}
 use Rattle.graph.specs.declared.CircuitDag.{CircuitDag}
 use Rattle.graph.specs.Dag.{empty}
-use Rattle.links.specs.declared.LoadingRule.{LoadingRule}
-use Rattle.links.specs.declared.LoadingRule.the-variants.{NearAll}
+use Rattle.links.specs.Links.{LoadingRule, NearAll}
 use Rattle.insertion.specs.Limits.{insertBy}
 
 -- one insertion: its rule, and its record's bytes

@@ -12,9 +12,7 @@ use Rattle.insertion.specs.declared.Answer.{Answer}
 use Rattle.insertion.specs.declared.Answer.the-variants.{Node, Refused}
 use Rattle.insertion.specs.declared.Inserted.{Inserted}
 use Rattle.graph.specs.Dag.{node, size}
-use Rattle.links.specs.Links.{FarRule, ruleOf}
-use Rattle.links.specs.declared.LoadingRule.{LoadingRule}
-use Rattle.links.specs.declared.LoadingRule.the-variants.{NearAll}
+use Rattle.links.specs.Links.{FarRule, LoadingRule, NearAll, ruleOf}
 use Rattle.registers.specs.Registers.{mapsPass}
 use Rattle.insertion.specs.Insertion.{facing, linked, registered, grown}
 use Rattle.graph.specs.Soundness.{sound}

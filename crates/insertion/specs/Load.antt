@@ -11,9 +11,7 @@ use Rattle.insertion.specs.declared.Answer.the-variants.{Node, Refused a
 use Rattle.file.specs.declared.Outcome.the-variants.{Done, Refused}
 use Rattle.insertion.specs.declared.Loaded.{Loaded}
 use Rattle.graph.specs.Dag.{empty}
-use Rattle.links.specs.Links.{FarRule, ruleOf}
-use Rattle.links.specs.declared.LoadingRule.{LoadingRule}
-use Rattle.links.specs.declared.LoadingRule.the-variants.{NearAll}
+use Rattle.links.specs.Links.{FarRule, LoadingRule, NearAll, ruleOf}
 use Rattle.insertion.specs.Limits.{insertAs}
 
 -- "A refused load gives the empty graph."

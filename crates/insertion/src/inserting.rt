@@ -84,5 +84,5 @@ pub fn insert_by(rule: LoadingRule, g: CircuitDag, part: &[u8]) -> Inserted
 pub fn insert(g: CircuitDag, part: &[u8]) -> Inserted
     ensures { λ r. ⌜ r ≡ insertOf g (now (part .entry)) ⌝ }
 {
-    insert_by(LoadingRule::NearAll, g, part)
+    insert_by(links::NEAR_ALL, g, part)
 }

@@ -88,5 +88,5 @@ pub fn load_by(rule: LoadingRule, file: &[u8]) -> Loaded
 pub fn load(file: &[u8]) -> Loaded
     ensures { λ r. ⌜ r ≡ loadOf (now (file .entry)) ⌝ }
 {
-    load_by(LoadingRule::NearAll, file)
+    load_by(links::NEAR_ALL, file)
 }

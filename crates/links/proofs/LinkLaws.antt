@@ -18,9 +18,7 @@ use Rattle.graph.specs.Soundness.{ascends}
 use Rattle.file.proofs.BoolLaws.{bool-cases, clash-bool, both-true}
 use Rattle.graph.proofs.ListLaws.{distinct-first, distinct-rest, distinct-more}
 use Rattle.links.specs.Links.{Linked, FarRule, nearAll, source, nearAfter, farAfter, noQubit, qubits, linkQubits, linkSet, mapped, linkAll, linkBy}
-use Rattle.links.specs.Links.{linkAt, ruleOf, qubitsFrom, edgeBound}
-use Rattle.links.specs.declared.LoadingRule.{LoadingRule}
-use Rattle.links.specs.declared.LoadingRule.the-variants.{NearAll, FarAll}
+use Rattle.links.specs.Links.{linkAt, LoadingRule, ruleOf, qubitsFrom, edgeBound}
 use Rattle.links.proofs.QubitLaws.{all-more, all-first, all-rest, qubits-ascend}
 
 -- ---- tests and lists
@@ -268,16 +266,15 @@ abbrev pub NamesAll : FarRule → Type 0
 NamesAll rule = (near far : End) → present (rule near far) ≡ true → (rule near far ≡ near .all .0) ⊎ (rule near far ≡ far .all .0)
 
 pub names-all : (rule : LoadingRule) → NamesAll (ruleOf rule)
-names-all NearAll near far p = inl refl
-names-all FarAll near far p = inr refl
+names-all false near far p = inl refl
+names-all true near far p = inr refl
 
 -- what the rule names is the same after one qubit
 abbrev pub Steady : FarRule → Type 0
 Steady rule = (near far : End) (v q : ℕ) → rule (nearAfter near q v) (farAfter rule near far q v) ≡ rule near far
 
 pub steady-rule : (rule : LoadingRule) → Steady (ruleOf rule)
-steady-rule NearAll near far v q = refl
-steady-rule FarAll near far v q = refl
+steady-rule rule near far v q = refl
 
 module _ (rule : FarRule) (v q : ℕ) where
   -- a qubit that is not among them keeps its entries

@@ -10,8 +10,6 @@ use Rattle.file.specs.declared.InvolvedQubits.{InvolvedQubits}
 use Rattle.file.specs.declared.InvolvedQubits.the-variants.{None, All, Set}
 use Rattle.graph.specs.declared.Edges.{Edges}
 use Rattle.graph.specs.declared.End.{End}
-use Rattle.links.specs.declared.LoadingRule.{LoadingRule}
-use Rattle.links.specs.declared.LoadingRule.the-variants.{NearAll, FarAll}
 use Rattle.graph.specs.Dag.{Edge, present, orElse, node, edge, atQubit}
 
 -- "bit q for qubit q"; "Qubits are taken from the lowest up": of the k lowest bits of m those set, as q, q + 1, ..
@@ -38,14 +36,21 @@ FarRule = End → End → ℕ
 abbrev pub nearAll : End → End → ℕ
 nearAll near far = near .all .0
 
--- the other: firstAll at the back
+-- the other end's: firstAll at the back
 abbrev pub farAll : End → End → ℕ
 farAll near far = far .all .0
 
--- the rule that the code is given
+-- which of the two the code is given: the other end's if it is true
+abbrev pub LoadingRule : Type 0
+LoadingRule = Bool
+
+-- document 01's
+abbrev pub NearAll : LoadingRule
+NearAll = false
+
+-- the rule that it stands for
 abbrev pub ruleOf : LoadingRule → FarRule
-ruleOf NearAll = nearAll
-ruleOf FarAll = farAll
+ruleOf rule near far = cond rule (farAll near far) (nearAll near far)
 
 -- "the source is last[q], else lastAll"
 abbrev pub source : End → ℕ → ℕ

@@ -62,10 +62,10 @@ fn fresh_entry(
 ) -> NodeIndex
     ensures { λ r. ⌜ Gives (ruleOf rule) (v .0) «near_all» «far_all» (r .0) ⌝ }
 {
-    match rule {
-        LoadingRule::NearAll => or_else(near_all, v),
-        LoadingRule::FarAll => or_else(far_all, v),
+    if rule {
+        return or_else(far_all, v);
     }
+    or_else(near_all, v)
 }
 
 // The lowest qubit of a mask.

@@ -9,11 +9,12 @@ use graph::End;
 pub use records::link_node;
 pub use records::link_records;
 
-// Which all-qubit node a new qubit's entry at the far end becomes: the near end's (document 01), or the far end's.
-pub enum LoadingRule {
-    NearAll,
-    FarAll,
-}
+// Which all-qubit node a new qubit's entry at the far end becomes: the near end's, or, if it is true, the far end's. A bool goes by
+// value, so that the compiler knows it in calls that are bound to one rule; an enum goes by reference.
+pub type LoadingRule = bool;
+
+// Document 01's.
+pub const NEAR_ALL: LoadingRule = false;
 
 // How many nodes there are, whether all records were accepted, and the ends and edges that join the nodes.
 pub struct LinkedRecords {

@@ -9,7 +9,7 @@ use lib.ListN.{length, getD, List·getD-map}
 use Rattle.graph.specs.declared.CircuitDag.{CircuitDag}
 use Rattle.graph.specs.Dag.{absent, size}
 use Rattle.graph.specs.Soundness.{sound}
-use Rattle.links.specs.declared.LoadingRule.{LoadingRule}
+use Rattle.links.specs.Links.{LoadingRule}
 use Rattle.insertion.specs.Calls.{Call, allBy, finalBy}
 use Rattle.insertion.proofs.BuiltLaws.{sound-built}
 use Rattle.walk.specs.Blocks.{blocks}
@@ -20,7 +20,6 @@ use Rattle.walk.proofs.BlockLaws.{rank, upward, first-start}
 use Rattle.walk.proofs.NumberLaws.{some-first}
 use Rattle.walk.proofs.Nets.{Net, isOp, on-op, clashes}
 use Rattle.walk.proofs.NetRuns.{clash-on}
-use Rattle.walk.proofs.GrownViews.{isFar}
 use Rattle.walk.proofs.AcceptedNets.{callOf, netOf, net-size, noRecord, at, Built, built}
 use Rattle.walk.proofs.RecordTakes.{takes-qubits, clash-is}
 use Rattle.planning.specs.Chain.{chainOf}
@@ -46,20 +45,20 @@ module _ (rule : LoadingRule) (l : List (List ℕ)) (bytes : Bytes l) where
   s : sound g ≡ true
   s = sound-built calls .sound
 
-  T : Built (isFar rule) g done
+  T : Built rule g done
   T = built rule l bytes
 
   abbrev N : Net
-  N = netOf (isFar rule) done
+  N = netOf rule done
 
   L : Linked N
-  L = net-linked (isFar rule) (map callOf done)
+  L = net-linked rule (map callOf done)
 
   record-is : (u : ℕ) → recordOf calls u ≡ at done u .bytes
   record-is u = List·getD-map (λ (o : Accepted). o .bytes) done u noRecord
 
   low : (u : ℕ) → isOp (N .take u) ≡ true → u < length done
-  low u o = let z = net-size (isFar rule) done in omega (arith, L .low u o)
+  low u o = let z = net-size rule done in omega (arith, L .low u o)
 
   -- an operation of the net is one by its record
   takes : (u : ℕ) → isOp (N .take u) ≡ true → takesQubits (at done u .bytes) ≡ true

@@ -8,7 +8,7 @@ use lib.ListN.{length, getD}
 use Rattle.graph.specs.declared.CircuitDag.{CircuitDag}
 use Rattle.graph.specs.Dag.{absent, size, hasEdge}
 use Rattle.graph.specs.Soundness.{sound}
-use Rattle.links.specs.declared.LoadingRule.{LoadingRule}
+use Rattle.links.specs.Links.{LoadingRule}
 use Rattle.insertion.specs.Calls.{Call, built, allBy}
 use Rattle.walk.specs.declared.BlockCount.the-variants.{Blocks}
 use Rattle.walk.specs.Blocks.{blockNumbers, wholeWalk}

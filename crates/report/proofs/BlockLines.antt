@@ -20,9 +20,9 @@ use Rattle.graph.proofs.ListLaws.{member-marked, member-upTo, member-keep}
 use Rattle.queries.proofs.ReachLaws.{keep-same}
 use Rattle.file.specs.declared.Outcome.{Outcome}
 use Rattle.file.specs.declared.Outcome.the-variants.{Done, Refused as NotLoaded}
+use Rattle.links.specs.Links.{NearAll}
 use Rattle.insertion.specs.declared.Loaded.{Loaded}
 use Rattle.insertion.specs.Load.{load}
-use Rattle.links.specs.declared.LoadingRule.the-variants.{NearAll}
 use Rattle.insertion.specs.Calls.{allBy}
 use Rattle.insertion.specs.Built.{recordsIn}
 use Rattle.insertion.proofs.BuiltLaws.{sound-built}

@@ -24,8 +24,7 @@ use Rattle.file.proofs.BoolLaws.{bool-cases, clash-bool, not-true}
 use Rattle.graph.proofs.ListLaws.{all-here, all-fails}
 use Rattle.insertion.specs.declared.Answer.the-variants.{Node, Refused}
 use Rattle.insertion.specs.declared.Inserted.{Inserted}
-use Rattle.links.specs.Links.{ruleOf}
-use Rattle.links.specs.declared.LoadingRule.{LoadingRule}
+use Rattle.links.specs.Links.{LoadingRule, ruleOf}
 use Rattle.insertion.specs.Insertion.{grown}
 use Rattle.insertion.specs.Limits.{refused, edgesPass, registersPass, insertAs, insertBy}
 use Rattle.insertion.specs.Calls.{Call as Insertion, graphAfter, built as builtBy, allBy, finalBy}
@@ -34,7 +33,7 @@ use Rattle.insertion.proofs.SafeEdges.{between}
 use Rattle.insertion.proofs.BuiltLaws.{Safe, safe-sound, safe-empty, safe-insert}
 use Rattle.walk.specs.Guarantee.{Accepted, acceptedFrom, accepted, Bytes}
 use Rattle.walk.proofs.LinkViews.{takeBy}
-use Rattle.walk.proofs.GrownViews.{Seen, isFar, grownAt, grown-at, callAt, grown-seen}
+use Rattle.walk.proofs.GrownViews.{Seen, grownAt, grown-at, callAt, grown-seen}
 use Rattle.walk.proofs.Nets.{Net, Take, nothing, every, these, Call, flip, back, insert, run, ranks, empty as emptyNet}
 use Rattle.walk.proofs.NetRuns.{Ranked, back-before, ranked-run, run-size, empty-ranked}
 
@@ -269,7 +268,7 @@ count-from (c ∷ l) g b f G = insert-told (c .rule) g s (safe-sound g G)
     (λ x. Safe false (x .graph) → size (graphAfter (x .graph) l) ≡ size g + length (acceptStep b f s l x))
     (λ r G. count-from l g b f G)
     (λ k low H.
-    let e = ap size (grown-at (c .rule) g s) ∙ grown-size (isFar (c .rule)) (front s) g s in
+    let e = ap size (grown-at (c .rule) g s) ∙ grown-size (c .rule) (front s) g s in
     let r = count-from l (grown (ruleOf (c .rule)) g s) (cond (front s) b (b + 1)) (cond (front s) (f + 1) f) H in
     omega (arith, e, r))
     (safe-insert (c .rule) g s G)
@@ -282,24 +281,21 @@ unfolding empty
 built-size l = omega (arith, count-from l empty 0 0 safe-empty)
 
 module _ (rule : LoadingRule) where
-  abbrev farAll : Bool
-  farAll = isFar rule
-
-  built-from : (l : List (List ℕ)) (g : CircuitDag) (b f : ℕ) (d : List Accepted) → Built farAll g d → b ≡ g .backs → f ≡ g .fronts
-      → Bytes l → Built farAll (graphAfter g (allBy rule l)) (d ++ acceptedFrom g b f (allBy rule l))
+  built-from : (l : List (List ℕ)) (g : CircuitDag) (b f : ℕ) (d : List Accepted) → Built rule g d → b ≡ g .backs → f ≡ g .fronts
+      → Bytes l → Built rule (graphAfter g (allBy rule l)) (d ++ acceptedFrom g b f (allBy rule l))
   unfolding graphAfter acceptedFrom
-  built-from [] g b f d T p q h = subst (λ (x : List Accepted). Built farAll g x) (sym (append-nil d)) T
+  built-from [] g b f d T p q h = subst (λ (x : List Accepted). Built rule g x) (sym (append-nil d)) T
   built-from (s ∷ l) g b f d T p q h = insert-told rule g s (safe-sound g (T .safe))
-      (λ x. Safe false (x .graph) → Built farAll (graphAfter (x .graph) (allBy rule l)) (d ++ acceptStep b f s (allBy rule l) x))
+      (λ x. Safe false (x .graph) → Built rule (graphAfter (x .graph) (allBy rule l)) (d ++ acceptStep b f s (allBy rule l) x))
       (λ r G. built-from l g b f d T p q rest)
       (λ k low G.
       let e = grown-at rule g s in
       let o : Accepted = record { node = b + f; place = cond (front s) (negsuc f) (pos b); bytes = s } in
       let n : b + f ≡ size g = (λ i. p i + q i) ∙ T .safe .nodes .ends in
-      let t = built-more farAll g d T s low k here o n (λ i. cond (front s) (negsuc (q i)) (pos (p i))) refl (subst (λ (x : CircuitDag). Safe false x) e G) in
-      subst (λ (x : List Accepted). Built farAll (graphAfter (grown (ruleOf rule) g s) (allBy rule l)) x) (append-assoc d (o ∷ []) _)
+      let t = built-more rule g d T s low k here o n (λ i. cond (front s) (negsuc (q i)) (pos (p i))) refl (subst (λ (x : CircuitDag). Safe false x) e G) in
+      subst (λ (x : List Accepted). Built rule (graphAfter (grown (ruleOf rule) g s) (allBy rule l)) x) (append-assoc d (o ∷ []) _)
       (built-from l (grown (ruleOf rule) g s) (cond (front s) b (b + 1)) (cond (front s) (f + 1) f) (d ++ (o ∷ []))
-      (subst (λ (x : CircuitDag). Built farAll x (d ++ (o ∷ []))) (sym e) t)
+      (subst (λ (x : CircuitDag). Built rule x (d ++ (o ∷ []))) (sym e) t)
       (backs (front s) ∙ sym (ap (λ (x : CircuitDag). x .backs) e)) (fronts (front s) ∙ sym (ap (λ (x : CircuitDag). x .fronts) e)) rest))
       (safe-insert rule g s (T .safe))
     where
@@ -312,11 +308,11 @@ module _ (rule : LoadingRule) where
       rest : Bytes l
       rest = sym (all-here (allOf (λ b. ltb b 256)) s l here) ∙ h
 
-      backs : (c : Bool) → cond c b (b + 1) ≡ grownAt farAll c g s .backs
+      backs : (c : Bool) → cond c b (b + 1) ≡ grownAt rule c g s .backs
       backs true = p
       backs false = ap (λ (k : ℕ). k + 1) p
 
-      fronts : (c : Bool) → cond c (f + 1) f ≡ grownAt farAll c g s .fronts
+      fronts : (c : Bool) → cond c (f + 1) f ≡ grownAt rule c g s .fronts
       fronts true = ap (λ (k : ℕ). k + 1) q
       fronts false = q
 
@@ -344,6 +340,6 @@ built-empty farAll = record {
 }
 
 -- every list of insertions by one rule on the empty graph
-pub built : (rule : LoadingRule) (l : List (List ℕ)) → Bytes l → Built (isFar rule) (finalBy rule l) (accepted (allBy rule l))
+pub built : (rule : LoadingRule) (l : List (List ℕ)) → Bytes l → Built rule (finalBy rule l) (accepted (allBy rule l))
 unfolding empty
-built rule l h = built-from rule l empty 0 0 [] (built-empty (isFar rule)) refl refl h
+built rule l h = built-from rule l empty 0 0 [] (built-empty rule) refl refl h

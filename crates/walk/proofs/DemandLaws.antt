@@ -20,9 +20,7 @@ use Rattle.insertion.specs.Calls.{Call, built as builtBy, allBy, finalBy}
 use Rattle.insertion.proofs.BuiltLaws.{sound-built}
 use Rattle.file.specs.Records.{recordRule}
 use Rattle.graph.specs.declared.NodeIndex.{NodeIndex}
-use Rattle.links.specs.Links.{FarRule, ruleOf}
-use Rattle.links.specs.declared.LoadingRule.{LoadingRule}
-use Rattle.links.specs.declared.LoadingRule.the-variants.{NearAll}
+use Rattle.links.specs.Links.{FarRule, LoadingRule, NearAll, ruleOf}
 use Rattle.insertion.specs.declared.Answer.the-variants.{Node}
 use Rattle.insertion.specs.declared.Inserted.{Inserted}
 use Rattle.insertion.specs.Insertion.{grown}
@@ -37,7 +35,6 @@ use Rattle.walk.proofs.Nets.{Net, isOp, clashes, Base}
 use Rattle.walk.proofs.NetRuns.{Kept, kept, net-base}
 use Rattle.walk.proofs.BlockSteps.{Within, sound-within, any-list, block-at, count-at, number-in, number-out}
 use Rattle.walk.proofs.CountLaws.{count-ext, different-count}
-use Rattle.walk.proofs.GrownViews.{isFar}
 use Rattle.walk.proofs.AcceptedNets.{callOf, netOf, net-size, net-ranked, noRecord, at, Built, built-size, built}
 use Rattle.walk.proofs.RecordTakes.{takes-qubits, clash-is, nonempties, one-all}
 
@@ -107,7 +104,7 @@ number-of rule g s v = by (not (recordRule s)) (leb 512 (size g)) (edgesPass rul
     by false false false false e = cc
 
 -- the guarantee for records inserted by one rule, whose net keeps the invariant
-module _ (rule : LoadingRule) (l : List (List ℕ)) (buffer : List ℕ) (bytes : Bytes l) (B : Base (netOf (isFar rule) (accepted (allBy rule l))))
+module _ (rule : LoadingRule) (l : List (List ℕ)) (buffer : List ℕ) (bytes : Bytes l) (B : Base (netOf rule (accepted (allBy rule l))))
     (room : size (finalBy rule l) ≤ length buffer) where
   abbrev calls : List Call
   calls = allBy rule l
@@ -118,14 +115,14 @@ module _ (rule : LoadingRule) (l : List (List ℕ)) (buffer : List ℕ) (bytes :
   abbrev done : List Accepted
   done = accepted calls
 
-  T : Built (isFar rule) g done
+  T : Built rule g done
   T = built rule l bytes
 
   W : Within g
   W = sound-within g (sound-built calls .sound)
 
   abbrev N : Net
-  N = netOf (isFar rule) done
+  N = netOf rule done
 
   abbrev op : ℕ → Bool
   op u = isOp (N .take u)
@@ -143,8 +140,8 @@ module _ (rule : LoadingRule) (l : List (List ℕ)) (buffer : List ℕ) (bytes :
   firstOf v = getD (g .first .block) v false
 
   net-kept : Kept N earlier
-  net-kept = kept N _ earlier (let z = net-size (isFar rule) done in omega (arith, T .long, T .safe .nodes .count)) B (net-ranked (isFar rule) done)
-      (λ u v k m. let z = net-size (isFar rule) done in sym (T .order u v (omega arith) (omega arith)))
+  net-kept = kept N _ earlier (let z = net-size rule done in omega (arith, T .long, T .safe .nodes .count)) B (net-ranked rule done)
+      (λ u v k m. let z = net-size rule done in sym (T .order u v (omega arith) (omega arith)))
 
   K : Guaranteed (size g) op clashing earlier edgeOf firstOf
   K = subst (λ (f : ℕ → Bool). Guaranteed (size g) op clashing earlier edgeOf f) (λ i v. T .seen .heads v i)
@@ -152,7 +149,7 @@ module _ (rule : LoadingRule) (l : List (List ℕ)) (buffer : List ℕ) (bytes :
       (subst (λ (n : ℕ). Guaranteed n op clashing earlier (N .edge) (N .head)) (T .seen .size) net-kept))
 
   low : (u : ℕ) → op u ≡ true → u < length done
-  low u h = let z = net-size (isFar rule) done in omega (arith, B .low u h)
+  low u h = let z = net-size rule done in omega (arith, B .low u h)
 
   op-is : (u : ℕ) → u < length done → op u ≡ takesQubits (at done u .bytes)
   op-is u k = ap isOp (T .takes u) ∙ takes-qubits (at done u .bytes) (T .rule u k)

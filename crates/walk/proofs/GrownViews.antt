@@ -16,15 +16,13 @@ use Rattle.graph.specs.declared.CircuitDag.{CircuitDag}
 use Rattle.graph.specs.Dag.{Edge, edge, size, edgeAt, sameEdge, hasEdge}
 use Rattle.file.proofs.BoolLaws.{bool-cases, bool-ext, and-intro, or-cases, or-inl, or-inr}
 use Rattle.graph.proofs.ListLaws.{map-at, any-here, any-later, any-at, at-any, any-upTo, upTo-any}
-use Rattle.links.specs.Links.{ruleOf, link, linkBy, withEdges}
-use Rattle.links.specs.declared.LoadingRule.{LoadingRule}
-use Rattle.links.specs.declared.LoadingRule.the-variants.{NearAll, FarAll}
+use Rattle.links.specs.Links.{LoadingRule, ruleOf, link, linkBy, withEdges}
 use Rattle.registers.specs.Registers.{withEntries}
 use Rattle.insertion.specs.Insertion.{facing, placeAfter, linked, registered, commutes, withCommuting, grown}
 use Rattle.insertion.proofs.SafeNodes.{moreNodes}
 use Rattle.insertion.proofs.BuiltLaws.{Safe}
 use Rattle.insertion.proofs.SafeEdges.{appended-old, appended-new}
-use Rattle.walk.proofs.LinkViews.{Sees, Fits, ruleFor, takeBy, link-sees}
+use Rattle.walk.proofs.LinkViews.{Sees, Fits, takeBy, link-sees}
 use Rattle.walk.proofs.Nets.{Net, Call, flip, insert}
 
 -- ---- edges behind the old ones
@@ -116,14 +114,9 @@ sees-flip n E near far N S = record {
   heads = S .tails;
 }
 
--- which of the net's two rules it is
-abbrev pub isFar : LoadingRule → Bool
-isFar NearAll = false
-isFar FarAll = true
-
 -- the rule `grown`, with the end as a parameter
 abbrev pub grownAt : Bool → Bool → CircuitDag → List ℕ → CircuitDag
-grownAt farAll b g s = let h = facing b g in let x = linked (ruleFor farAll) h s in let r = registered h s in facing b (record {
+grownAt farAll b g s = let h = facing b g in let x = linked (ruleOf farAll) h s in let r = registered h s in facing b (record {
   nodes = moreNodes (h .nodes) (kind s) (qubitForm s) (label s) (placeAfter b (h .backs));
   edges = withEdges (h .edges) (map (link b (size h)) (x .others));
   first = x .far;
@@ -135,10 +128,9 @@ grownAt farAll b g s = let h = facing b g in let x = linked (ruleFor farAll) h s
   fronts = h .fronts;
 })
 
-pub grown-at : (rule : LoadingRule) (g : CircuitDag) (s : List ℕ) → grown (ruleOf rule) g s ≡ grownAt (isFar rule) (front s) g s
+pub grown-at : (rule : LoadingRule) (g : CircuitDag) (s : List ℕ) → grown (ruleOf rule) g s ≡ grownAt rule (front s) g s
 unfolding grown
-grown-at NearAll g s = refl
-grown-at FarAll g s = refl
+grown-at rule g s = refl
 
 abbrev pub callAt : Bool → List ℕ → Call
 callAt b s = record { front = b; takes = takeBy (qubitsOf s) }
@@ -176,9 +168,9 @@ module _ (g : CircuitDag) (s : List ℕ) (G : Safe false g) (low : size g < 512)
 
   pub grown-seen : (farAll b : Bool) (N : Net) → Seen g N → Seen (grownAt farAll b g s) (insert farAll N (callAt b s))
   grown-seen farAll false N S = sees-as (size g + 1) _ _ _ _ _ (link-sees farAll (qubitsOf s) (size g) (λ a b. hasEdge g a b) (g .last) (g .first) N S fits-last)
-      (λ a b. sym (edges-in (g .edges) (map (link false (size g)) (linkBy (qubitsOf s) (ruleFor farAll) (size g) (g .last) (g .first) .others)) in-from in-to a b
-      ∙ ap (λ (x : Bool). hasEdge g a b || x) (links-back (size g) a b (linkBy (qubitsOf s) (ruleFor farAll) (size g) (g .last) (g .first) .others))))
+      (λ a b. sym (edges-in (g .edges) (map (link false (size g)) (linkBy (qubitsOf s) (ruleOf farAll) (size g) (g .last) (g .first) .others)) in-from in-to a b
+      ∙ ap (λ (x : Bool). hasEdge g a b || x) (links-back (size g) a b (linkBy (qubitsOf s) (ruleOf farAll) (size g) (g .last) (g .first) .others))))
   grown-seen farAll true N S = sees-as (size g + 1) _ _ _ _ _ (sees-flip (size g + 1) _ _ _ _
       (link-sees farAll (qubitsOf s) (size g) (λ a b. hasEdge g b a) (g .first) (g .last) (flip N) (sees-flip (size g) (λ a b. hasEdge g a b) (g .last) (g .first) N S) fits-first))
-      (λ a b. sym (edges-in (g .edges) (map (link true (size g)) (linkBy (qubitsOf s) (ruleFor farAll) (size g) (g .first) (g .last) .others)) in-from in-to a b
-      ∙ ap (λ (x : Bool). hasEdge g a b || x) (links-front (size g) a b (linkBy (qubitsOf s) (ruleFor farAll) (size g) (g .first) (g .last) .others))))
+      (λ a b. sym (edges-in (g .edges) (map (link true (size g)) (linkBy (qubitsOf s) (ruleOf farAll) (size g) (g .first) (g .last) .others)) in-from in-to a b
+      ∙ ap (λ (x : Bool). hasEdge g a b || x) (links-front (size g) a b (linkBy (qubitsOf s) (ruleOf farAll) (size g) (g .first) (g .last) .others))))

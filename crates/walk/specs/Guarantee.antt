@@ -15,9 +15,7 @@ use Rattle.graph.specs.declared.NodeIndex.{NodeIndex}
 use Rattle.graph.specs.declared.CircuitDag.{CircuitDag}
 use Rattle.insertion.specs.declared.Answer.the-variants.{Node, Refused}
 use Rattle.graph.specs.Dag.{absent, empty, size}
-use Rattle.links.specs.declared.LoadingRule.{LoadingRule}
-use Rattle.links.specs.declared.LoadingRule.the-variants.{NearAll}
-use Rattle.links.specs.Links.{ruleOf, qubits}
+use Rattle.links.specs.Links.{LoadingRule, NearAll, ruleOf, qubits}
 use Rattle.insertion.specs.Limits.{insertAs, insertBy}
 use Rattle.insertion.specs.Calls.{Call, built, allBy, finalBy}
 use Rattle.walk.specs.declared.ParallelBlocks.{ParallelBlocks}
