@@ -1,7 +1,7 @@
 -- A record: what its rule says, its exact length, and the answers of the parser's functions. Assumes nothing.
 use mathlib.Core.Path.{_≡_, refl, sym, ap}
 use mathlib.Core.Bool.{Bool, true, false, cond, _&&_}
-use mathlib.Core.List.{List}
+use mathlib.Core.List.{List, []}
 use mathlib.Core.Logic.{⊎-elim, _⊎_}
 use Prim.Native.Nat.{ℕ, suc, _+_, _*_, _-_, _<_, _≤_}
 use native.Mathlib.Omega.{arith}
@@ -9,14 +9,16 @@ use lib.Dec.{leb, eqb}
 use lib.ListN.{length, getD, List·getD-eq-default}
 use borrow.Author.Tests.{eqb-true, eqb-false, ne-eqb, le-leb, lt-leb, leb-true}
 use Rattle.file.proofs.BoolLaws.{bool-cases, clash-bool, both-true}
-use Rattle.file.specs.Pairs.{numberAt, countOf, checkFile, pairPlace, recordAt}
+use Rattle.file.specs.Pairs.{numberAt, countOf, checkFile, offsetOf, lengthOf, partOf, pairPlace, recordAt}
+use Rattle.file.specs.Refusals.{atRecord}
 use Rattle.file.specs.Records
 use Rattle.file.proofs.PairLaws.{field-past, pair-there}
 use Rattle.file.specs.declared.Refusal.{Refusal}
-use Rattle.file.specs.declared.Refusal.the-variants.{BadRecord}
+use Rattle.file.specs.declared.Refusal.the-variants.{FileTooShort, TooManyRecords, BadPair, BadRecord, TooManyNodes, TooManyEdges}
+use Rattle.file.specs.declared.Refusal.the-variants.{TooManyRegisters, Absent, NotInLayer, ShortBuffer, Unsound}
 use Rattle.file.specs.declared.FileCheck.the-variants.{Sound}
 use Rattle.file.specs.declared.Place.{Place}
-use Rattle.file.specs.declared.Place.the-variants.{Refused as NotThere}
+use Rattle.file.specs.declared.Place.the-variants.{At, Refused as NotThere}
 use Rattle.file.specs.declared.Record.{Record}
 use Rattle.file.specs.declared.InvolvedQubits.{InvolvedQubits}
 use Rattle.file.specs.declared.InvolvedClassical.{InvolvedClassical}
@@ -83,43 +85,98 @@ exact-length s e = tail-length s (rule s e .tail)
 pub same-bytes : (s t : List ℕ) (i j : ℕ) → recordAt s i ≡ recordAt t j → Records.parseRecord (recordAt s i) ≡ Records.parseRecord (recordAt t j)
 same-bytes s t i j e = ap Records.parseRecord e
 
--- a record that parses keeps its rule, and one that does not breaks it
-pub parsed : (s : List ℕ) (r : Record) → Records.parseRecord s ≡ Parses r → (Records.recordRule s ≡ true) × (r ≡ Records.recordOf s)
+-- a record that parses is good and says what recordOf has; one that does not is not good, and its cause is causeOf
+pub parsed-good : (s : List ℕ) (r : Record) → Records.parseRecord s ≡ Parses r → (Records.good s ≡ true) × (r ≡ Records.recordOf s)
 unfolding Records.parseRecord
-parsed s r e = told (Records.recordRule s) e
+parsed-good s r e = told (Records.good s) e
   where
-    told : (b : Bool) → cond b (Parses (Records.recordOf s)) (Refused (BadRecord 0)) ≡ Parses r → (b ≡ true) × (r ≡ Records.recordOf s)
+    told : (b : Bool) → cond b (Parses (Records.recordOf s)) (Refused (Records.causeOf s)) ≡ Parses r → (b ≡ true) × (r ≡ Records.recordOf s)
     told true e = (refl, cc)
     told false e = let z : _≡_ {A = ℕ} 0 1 = cc in absurd (omega arith)
 
-pub not-parsed : (s : List ℕ) (x : Refusal) → Records.parseRecord s ≡ Refused x → Records.recordRule s ≡ false
+pub not-parsed : (s : List ℕ) (x : Refusal) → Records.parseRecord s ≡ Refused x → (Records.good s ≡ false) × (x ≡ Records.causeOf s)
 unfolding Records.parseRecord
-not-parsed s x e = told (Records.recordRule s) e
+not-parsed s x e = told (Records.good s) e
   where
-    told : (b : Bool) → cond b (Parses (Records.recordOf s)) (Refused (BadRecord 0)) ≡ Refused x → b ≡ false
+    told : (b : Bool) → cond b (Parses (Records.recordOf s)) (Refused (Records.causeOf s)) ≡ Refused x → (b ≡ false) × (x ≡ Records.causeOf s)
     told true e = let z : _≡_ {A = ℕ} 0 1 = cc in absurd (omega arith)
-    told false e = refl
+    told false e = (refl, cc)
+
+-- the last number counts
+pub at-again : (i k : ℕ) (r : Refusal) → atRecord i (atRecord k r) ≡ atRecord i r
+at-again i k FileTooShort = refl
+at-again i k TooManyRecords = refl
+at-again i k (BadPair j) = refl
+at-again i k (BadRecord j) = refl
+at-again i k TooManyNodes = refl
+at-again i k (TooManyEdges j) = refl
+at-again i k (TooManyRegisters j) = refl
+at-again i k Absent = refl
+at-again i k NotInLayer = refl
+at-again i k ShortBuffer = refl
+at-again i k Unsound = refl
+
+-- a record's own cause is never 11
+pub cause-known : (s : List ℕ) (i : ℕ) → atRecord i (Records.causeOf s) ≡ Unsound → ⊥
+unfolding Records.causeOf
+cause-known s i e = let z : _≡_ {A = ℕ} 0 1 = cc in omega arith
+
+-- a record that is not good breaks its rule
+pub not-good-breaks : (s : List ℕ) → Records.good s ≡ false → Records.recordRule s ≡ false
+unfolding Records.good
+not-good-breaks s e = e
+
+-- a good record keeps its rule
+pub good-keeps : (s : List ℕ) → Records.good s ≡ true → Records.recordRule s ≡ true
+unfolding Records.good
+good-keeps s e = e
+
+pub parsed : (s : List ℕ) (r : Record) → Records.parseRecord s ≡ Parses r → (Records.recordRule s ≡ true) × (r ≡ Records.recordOf s)
+parsed s r e = let p = parsed-good s r e in (good-keeps s (p .0), p .1)
+
+-- nothing is no record
+nothing-parses : (r : Record) → Records.parseRecord [] ≡ Parses r → ⊥
+unfolding Records.parseRecord Records.good Records.recordRule
+nothing-parses r e = let z : _≡_ {A = ℕ} 0 1 = cc in omega arith
 
 -- record i of a file, by the parser's answer on the part that its pair gives
 module _ (s : List ℕ) (i : ℕ) where
   pub taken : (r : Record) → Records.parseRecord (recordAt s i) ≡ Parses r → Records.parseAt s i ≡ Parses r
   unfolding Records.parseAt
-  taken r e = let p = parsed (recordAt s i) r e in rw (p .0, p .1) refl
+  taken r e = by (pairPlace s i) e
+    where
+      by : (p : Place) → Records.parseRecord (partOf p s) ≡ Parses r → Records.parseFrom p s i ≡ Parses r
+      by (NotThere x) q = absurd (nothing-parses r q)
+      by (At o l) q = ap (Records.numbered i) q
 
-  pub not-taken : (x : Refusal) → Records.parseRecord (recordAt s i) ≡ Refused x → Records.parseAt s i ≡ Refused (Records.refusalFrom (pairPlace s i) i)
+  pub not-taken : (c : Refusal) → Records.parseRecord (recordAt s i) ≡ Refused c → Records.parseAt s i ≡ Refused (Records.refusalFrom (pairPlace s i) c i)
   unfolding Records.parseAt
-  not-taken x e = rw (not-parsed (recordAt s i) x e) refl
+  not-taken c e = by (pairPlace s i) e
+    where
+      by : (p : Place) → Records.parseRecord (partOf p s) ≡ Refused c → Records.parseFrom p s i ≡ Refused (Records.refusalFrom p c i)
+      by (NotThere x) q = refl
+      by (At o l) q = ap (Records.numbered i) q
 
   -- a record that is taken stands in the file
   pub taken-there : (r : Record) → Records.parseAt s i ≡ Parses r → (x : Refusal) → pairPlace s i ≡ NotThere x → ⊥
-  unfolding Records.parseAt Records.recordRule
+  unfolding Records.parseAt
   taken-there r e x h = let z : _≡_ {A = ℕ} 0 1 = cc in omega arith
 
 -- on a file that passed the check, a record below the count is refused for its own bytes alone
 pub checked-at : (s : List ℕ) (i : ℕ) → checkFile s ≡ Sound → i < countOf s
-    → Records.parseAt s i ≡ cond (Records.recordRule (recordAt s i)) (Parses (Records.recordOf (recordAt s i))) (Refused (BadRecord i))
-unfolding Records.parseAt
-checked-at s i e l = ap (λ (c : Refusal). cond (Records.recordRule (recordAt s i)) (Parses (Records.recordOf (recordAt s i))) (Refused c)) (ap (λ (x : Place). Records.refusalFrom x i) (pair-there s i e l))
+    → Records.parseAt s i ≡ cond (Records.good (recordAt s i)) (Parses (Records.recordOf (recordAt s i))) (Refused (atRecord i (Records.causeOf (recordAt s i))))
+unfolding Records.parseAt Records.parseRecord
+checked-at s i e l = by (pairPlace s i) (pair-there s i e l)
+  where
+    told : (b : Bool) (r : Record) (c : Refusal) → Records.numbered i (cond b (Parses r) (Refused c)) ≡ cond b (Parses r) (Refused (atRecord i c))
+    told true r c = refl
+    told false r c = refl
+
+    by : (p : Place) → p ≡ At (offsetOf s i) (lengthOf s i)
+        → Records.parseFrom p s i
+        ≡ cond (Records.good (partOf p s)) (Parses (Records.recordOf (partOf p s))) (Refused (atRecord i (Records.causeOf (partOf p s))))
+    by (NotThere x) q = let z : _≡_ {A = ℕ} 0 1 = cc in absurd (omega arith)
+    by (At o k) q = told (Records.good (partOf (At o k) s)) (Records.recordOf (partOf (At o k) s)) (Records.causeOf (partOf (At o k) s))
 
 -- the form's number of what a record involves is the record's qubit form
 pub form-kept : (s : List ℕ) → Records.recordRule s ≡ true → Records.formOf (Records.qubitsOf s) ≡ Records.qubitForm s
@@ -181,30 +238,30 @@ module _ (s : List ℕ) where
   no-entry k l = let h : length s ≤ 16 + 3 * k = omega arith in rw (List·getD-eq-default s 0 l, field-past s (16 + 3 * k) h) refl
 
   pub too-short : length s < 14 → Refused (BadRecord 0) ≡ Records.parseRecord s
-  unfolding Records.parseRecord Records.recordRule
+  unfolding Records.parseRecord Records.good Records.causeOf Records.recordRule
   too-short l = rw (lt-leb 14 (length s) l) refl
 
   module _ (long : 14 ≤ length s) where
     pub bad-end : 1 < getD s 0 0 → Refused (BadRecord 0) ≡ Records.parseRecord s
-    unfolding Records.parseRecord Records.recordRule
+    unfolding Records.parseRecord Records.good Records.causeOf Records.recordRule
     bad-end l = rw (le-leb 14 (length s) long, lt-leb (getD s 0 0) 1 l) refl
 
     module _ (side : getD s 0 0 ≤ 1) where
       pub bad-kind : kindRule s ≡ false → Refused (BadRecord 0) ≡ Records.parseRecord s
-      unfolding Records.parseRecord Records.recordRule
+      unfolding Records.parseRecord Records.good Records.causeOf Records.recordRule
       bad-kind e = rw (le-leb 14 (length s) long, le-leb (getD s 0 0) 1 side, e) refl
 
       module _ (m : ℕ) (read : m ≡ Records.mask s) (k : kindRule s ≡ true) where
         pub bad-qubits : Records.qubitRule (Records.qubitForm s) m ≡ false → Refused (BadRecord 0) ≡ Records.parseRecord s
-        unfolding Records.parseRecord Records.recordRule
+        unfolding Records.parseRecord Records.good Records.causeOf Records.recordRule
         bad-qubits e = rw (le-leb 14 (length s) long, le-leb (getD s 0 0) 1 side, k, ← read, e) refl
 
         module _ (q : Records.qubitRule (Records.qubitForm s) m ≡ true) where
           pub bad-tail : Records.tailRule s ≡ false → Refused (BadRecord 0) ≡ Records.parseRecord s
-          unfolding Records.parseRecord Records.recordRule
+          unfolding Records.parseRecord Records.good Records.causeOf Records.recordRule
           bad-tail e = rw (le-leb 14 (length s) long, le-leb (getD s 0 0) 1 side, k, ← read, q, e) refl
 
           pub good : (x : InvolvedQubits) (y : InvolvedClassical) (l : ℕ) → Records.tailRule s ≡ true → x ≡ Records.qubitsBy (Records.qubitForm s) m → y ≡ Records.classicalOf s → l ≡ numberAt s 12 2
               → Parses (record { front = eqb (getD s 0 0) 1; kind = Records.kind s; label = l; qubits = x; classical = y }) ≡ Records.parseRecord s
-          unfolding Records.parseRecord Records.recordRule
+          unfolding Records.parseRecord Records.good Records.causeOf Records.recordRule
           good x y l t e g h = rw (le-leb 14 (length s) long, le-leb (getD s 0 0) 1 side, k, ← read, q, t, e, g, h) refl

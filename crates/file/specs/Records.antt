@@ -4,7 +4,8 @@ use mathlib.Core.List.{List}
 use Prim.Native.Nat.{ℕ, zero, suc, _+_, _*_, _-_}
 use lib.Dec.{ltb, leb, eqb}
 use lib.ListN.{length, getD}
-use Rattle.file.specs.Pairs.{numberAt, pairPlace, recordAt}
+use Rattle.file.specs.Pairs.{numberAt, pairPlace, partOf}
+use Rattle.file.specs.Refusals.{atRecord}
 use Rattle.file.specs.declared.Refusal.{Refusal}
 use Rattle.file.specs.declared.Refusal.the-variants.{BadRecord}
 use Rattle.file.specs.declared.Place.{Place}
@@ -151,16 +152,33 @@ keyAt s k = record { name = entryName s k; index = entryIndex s k }
 abbrev pub recordOf : List ℕ → Record
 recordOf s = record { front = front s; kind = kind s; label = label s; qubits = qubitsOf s; classical = classicalOf s }
 
--- "a record breaks its rule | 4 | number, record (0 on insertion)"
+-- a record that is taken as far as it alone decides: it keeps its rule
+unfoldable pub good : List ℕ → Bool
+good s = recordRule s
+
+-- why one that is not good is refused: "a record breaks its rule | 4 | number, record (0 on insertion)"
+unfoldable pub causeOf : List ℕ → Refusal
+causeOf s = BadRecord 0
+
+-- what a record's bytes say, or why they are refused
 unfoldable pub parseRecord : List ℕ → Parsed
-parseRecord s = cond (recordRule s) (Parses (recordOf s)) (Refused (BadRecord 0))
+parseRecord s = cond (good s) (Parses (recordOf s)) (Refused (causeOf s))
 
--- why record i of the file is not taken, by where it stands: 2, 1, 8, 3, else "a record breaks its rule | 4 | number,
--- record"
-abbrev pub refusalFrom : Place → ℕ → Refusal
-refusalFrom (NotThere r) i = r
-refusalFrom (At o l) i = BadRecord i
+-- why record i of the file is not taken, by where it stands: 2, 1, 8, 3, else c, its bytes' own cause, with its number
+abbrev pub refusalFrom : Place → Refusal → ℕ → Refusal
+refusalFrom (NotThere r) c i = r
+refusalFrom (At o l) c i = atRecord i c
 
--- record i of the file by its own pair: one that the file has not is nothing, which breaks the rule
+-- what parsing found, a refusal with the record's number
+abbrev pub numbered : ℕ → Parsed → Parsed
+numbered i (Parses r) = Parses r
+numbered i (Refused c) = Refused (atRecord i c)
+
+-- record i of the file by its own pair: refused by where it stands, else by its bytes
+abbrev pub parseFrom : Place → List ℕ → ℕ → Parsed
+parseFrom (NotThere r) s i = Refused r
+parseFrom (At o l) s i = numbered i (parseRecord (partOf (At o l) s))
+
+-- .. where its pair says that it stands
 unfoldable pub parseAt : List ℕ → ℕ → Parsed
-parseAt s i = cond (recordRule (recordAt s i)) (Parses (recordOf (recordAt s i))) (Refused (refusalFrom (pairPlace s i) i))
+parseAt s i = parseFrom (pairPlace s i) s i

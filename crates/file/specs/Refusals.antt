@@ -33,3 +33,17 @@ valueOf Absent = Nothing
 valueOf NotInLayer = Nothing
 valueOf ShortBuffer = Nothing
 valueOf Unsound = Nothing
+
+-- a refusal that a record gets by itself, "record (0 on insertion)", with the record's number in its file
+abbrev pub atRecord : ℕ → Refusal → Refusal
+atRecord i FileTooShort = FileTooShort
+atRecord i TooManyRecords = TooManyRecords
+atRecord i (BadPair k) = BadPair k
+atRecord i (BadRecord k) = BadRecord i
+atRecord i TooManyNodes = TooManyNodes
+atRecord i (TooManyEdges k) = TooManyEdges i
+atRecord i (TooManyRegisters k) = TooManyRegisters i
+atRecord i Absent = Absent
+atRecord i NotInLayer = NotInLayer
+atRecord i ShortBuffer = ShortBuffer
+atRecord i Unsound = Unsound

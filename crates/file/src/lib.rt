@@ -20,6 +20,7 @@ pub use records::qubit_form;
 pub use records::record_label;
 pub use records::register_form;
 pub use records::register_key;
+pub use refusals::at_record;
 pub use refusals::refusal_number;
 pub use refusals::refusal_value;
 

@@ -1,6 +1,6 @@
 // "Causes of refusal": the document's number and value of each cause.
 ghost use mathlib.Core.Path.{_≡_};
-ghost use Rattle.file.specs.Refusals.{numberOf, valueOf};
+ghost use Rattle.file.specs.Refusals.{numberOf, valueOf, atRecord};
 use crate::Refusal;
 use crate::RefusalValue;
 
@@ -39,5 +39,24 @@ pub fn refusal_value(r: Refusal) -> RefusalValue
         Refusal::NotInLayer => RefusalValue::Nothing,
         Refusal::ShortBuffer => RefusalValue::Nothing,
         Refusal::Unsound => RefusalValue::Nothing,
+    }
+}
+
+// A refusal that a record gets by itself, with the record's number in its file.
+pub fn at_record(i: usize, r: Refusal) -> Refusal
+    ensures { λ x. ⌜ x ≡ atRecord i r ⌝ }
+{
+    match r {
+        Refusal::FileTooShort => Refusal::FileTooShort,
+        Refusal::TooManyRecords => Refusal::TooManyRecords,
+        Refusal::BadPair(k) => Refusal::BadPair(k),
+        Refusal::BadRecord(_) => Refusal::BadRecord(i),
+        Refusal::TooManyNodes => Refusal::TooManyNodes,
+        Refusal::TooManyEdges(_) => Refusal::TooManyEdges(i),
+        Refusal::TooManyRegisters(_) => Refusal::TooManyRegisters(i),
+        Refusal::Absent => Refusal::Absent,
+        Refusal::NotInLayer => Refusal::NotInLayer,
+        Refusal::ShortBuffer => Refusal::ShortBuffer,
+        Refusal::Unsound => Refusal::Unsound,
     }
 }

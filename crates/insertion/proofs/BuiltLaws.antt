@@ -2,7 +2,7 @@
 -- which has besides that no node of the last block has an edge out, and that where one end names a node the other end's block
 -- is not empty. It is stated as seen from either end, so that one argument serves back and front. Assumes nothing.
 use mathlib.Core.Path.{_≡_, refl, _∙_, ap, subst, sym}
-use mathlib.Core.Bool.{Bool, true, false, cond, not, _||_, Bool·not-not}
+use mathlib.Core.Bool.{Bool, true, false, not, _||_, Bool·not-not}
 use mathlib.Core.Logic.{inl, inr}
 use mathlib.Core.List.{List, [], _∷_, map}
 use Prim.Native.Nat.{ℕ, _+_, _≤_, _<_}
@@ -10,10 +10,12 @@ use native.Mathlib.Omega.{arith}
 use lib.Dec.{ltb, leb}
 use lib.IntN.{ℤ, pos, negsuc}
 use lib.ListN.{length, length-replicate}
-use borrow.Author.Tests.{ltb-false, leb-false, not-false as told-true}
+use borrow.Author.Tests.{ltb-false, leb-false}
 use Rattle.file.specs.Lists.{allOf, countFrom}
 use Rattle.file.specs.Records.{front, kind, qubitForm, label, recordRule, qubitsOf}
-use Rattle.file.specs.declared.Refusal.the-variants.{BadRecord, TooManyNodes, TooManyEdges, TooManyRegisters, Unsound}
+use Rattle.file.specs.declared.Refusal.the-variants.{Unsound}
+use Rattle.file.proofs.RecordLaws.{good-keeps}
+use Rattle.insertion.proofs.CaseLaws.{never-unsound, insert-cases}
 use Rattle.graph.specs.declared.End.{End}
 use Rattle.graph.specs.declared.Registers.{Registers}
 use Rattle.graph.specs.declared.CircuitDag.{CircuitDag}
@@ -21,13 +23,12 @@ use Rattle.graph.specs.Dag.{absent, size, node, noEnd, noRegisters, empty, plac
 use Rattle.graph.specs.Soundness.{placeWithin, sound}
 use Rattle.file.proofs.BoolLaws.{clash-bool, or-l, or-r}
 use Rattle.graph.proofs.SoundnessLaws.{NamesFit, RegistersFit, registers-told, told-sound}
-use Rattle.insertion.specs.declared.Answer.the-variants.{Node, Refused}
-use Rattle.insertion.specs.declared.Inserted.{Inserted}
+use Rattle.insertion.specs.declared.Answer.the-variants.{Refused}
 use Rattle.links.specs.Links.{Linked, FarRule, LoadingRule, ruleOf, link, withEdges}
 use Rattle.registers.specs.Registers.{withEntries}
 use Rattle.insertion.specs.Insertion.{facing, placeAfter, linked, registered, commutes, withCommuting, grown}
 use Rattle.registers.specs.Registers.{Maps}
-use Rattle.insertion.specs.Limits.{refused, edgesPass, registersPass, insertAs, insertBy}
+use Rattle.insertion.specs.Limits.{insertAs, insertBy}
 use Rattle.insertion.specs.Calls.{Call, graphAfter, built}
 use Rattle.insertion.specs.Built.{SoundBuilt}
 use Rattle.links.proofs.LinkLaws.{NamesAll, names-all, others-distinct}
@@ -279,20 +280,11 @@ safe-grown rule names g s G A =
 
 -- ---- an insertion, and a list of them
 
--- a refusal, or the insertion where no test refuses
-insert-cases : (P : Inserted → Type 0) (a b c d : Bool) (w x y z v : Inserted) → P w → P x → P y → P z
-    → (a ≡ false → b ≡ false → c ≡ false → d ≡ false → P v) → P (cond a w (cond b x (cond c y (cond d z v))))
-insert-cases P true b c d w x y z v p q r t u = p
-insert-cases P false true c d w x y z v p q r t u = q
-insert-cases P false false true d w x y z v p q r t u = r
-insert-cases P false false false true w x y z v p q r t u = t
-insert-cases P false false false false w x y z v p q r t u = u refl refl refl refl
-
-not-passed : (rule : FarRule) (b : Bool) (g : CircuitDag) (s : List ℕ) → not (recordRule s) ≡ false → leb 512 (size g) ≡ false
+not-passed : (rule : FarRule) (b : Bool) (g : CircuitDag) (s : List ℕ) → recordRule s ≡ true → leb 512 (size g) ≡ false
     → ltb 2048 (g .edges .count + length (linked rule (facing b g) s .others)) ≡ false
     → (ltb 256 (length (registered (facing b g) s .near)) || ltb 256 (length (registered (facing b g) s .far))) ≡ false → Accepted rule (facing b g) s
 not-passed rule b g s k r e m = record {
-  keeps = told-true (recordRule s) k;
+  keeps = k;
   room = size-in b;
   edges = edges-in b (ltb-false _ _ e);
   near = ltb-false _ _ (or-l (ltb 256 (length (registered (facing b g) s .near))) (ltb 256 (length (registered (facing b g) s .far))) m);
@@ -308,24 +300,16 @@ not-passed rule b g s k r e m = record {
     edges-in true h = h
 
 module _ (rule : FarRule) (i : ℕ) (g : CircuitDag) (s : List ℕ) where
-  as-cases : (P : Inserted → Type 0) → P (refused (BadRecord i) g) → P (refused TooManyNodes g) → P (refused (TooManyEdges i) g) → P (refused (TooManyRegisters i) g)
-      → (Accepted rule (facing (front s) g) s → P (record { answer = Node (node (size g)); graph = grown rule g s })) → P (insertAs rule i g s)
-  unfolding insertAs
-  as-cases P p q r t u = insert-cases P (not (recordRule s)) (leb 512 (size g)) (edgesPass rule g s) (registersPass g s) _ _ _ _ _ p q r t
-      (λ k l e m. u (not-passed rule (front s) g s k l e m))
-
   -- a refusal leaves the graph as it was
   pub safe-as : NamesAll rule → Safe false g → Safe false (insertAs rule i g s .graph)
-  safe-as names G = as-cases (λ x. Safe false (x .graph)) G G G G (safe-grown rule names g s G)
+  safe-as names G = insert-cases rule g s i (λ x. Safe false (x .graph)) (λ r c. G)
+      (λ t. safe-grown rule names g s G (not-passed rule (front s) g s (good-keeps s (t .whole)) (t .free) (t .room) (t .fit)))
 
   -- "4 to 7"
   as-refused : insertAs rule i g s .answer ≡ Refused Unsound → ⊥
-  as-refused = as-cases (λ x. x .answer ≡ Refused Unsound → ⊥)
-      (λ e. let z : _≡_ {A = ℕ} 0 1 = cc in omega arith)
-      (λ e. let z : _≡_ {A = ℕ} 0 1 = cc in omega arith)
-      (λ e. let z : _≡_ {A = ℕ} 0 1 = cc in omega arith)
-      (λ e. let z : _≡_ {A = ℕ} 0 1 = cc in omega arith)
-      (λ a e. let z : _≡_ {A = ℕ} 0 1 = cc in omega arith)
+  as-refused = insert-cases rule g s i (λ x. x .answer ≡ Refused Unsound → ⊥)
+      (λ r c e. never-unsound rule g s i r c cc)
+      (λ t e. let z : _≡_ {A = ℕ} 0 1 = cc in omega arith)
 
 insert-sound : (rule : LoadingRule) (g : CircuitDag) (s : List ℕ) → sound g ≡ true → insertBy rule g s ≡ insertAs (ruleOf rule) 0 g s
 unfolding insertBy

@@ -2,25 +2,25 @@
 -- insertion)" and tests soundness first, these do neither: the number stands in the refusals only, and every graph on the
 -- way is sound. Assumes nothing.
 use mathlib.Core.Path.{_≡_, refl, sym, _∙_, ap}
-use mathlib.Core.Bool.{Bool, true, false, cond, not}
+use mathlib.Core.Bool.{true}
+use mathlib.Core.Logic.{⊎-elim}
 use mathlib.Core.List.{List, [], _∷_, _++_}
 use Prim.Native.Nat.{ℕ, zero, suc, _+_, _-_, _≤_, _<_}
 use native.Mathlib.Omega.{arith}
 use native.Mathlib.Decide.{ℕ-discrete}
 use native.Mathlib.Numerals.{add-one}
-use lib.Dec.{leb}
 use lib.ListN.{length, getD, take, drop, length-map, drop-of-length-le}
 use lib.Seq.{take-suc, take-all, drop-cons}
 use Rattle.file.specs.Lists.{keep, upTo}
 use Rattle.file.specs.Pairs.{countOf, checkFile, recordAt}
-use Rattle.file.specs.Records.{recordRule}
+use Rattle.file.specs.Refusals.{atRecord}
 use Rattle.file.specs.declared.FileCheck.{FileCheck}
 use Rattle.file.specs.declared.FileCheck.the-variants.{Sound, Refused as BadFile}
 use Rattle.file.specs.declared.Refusal.{Refusal}
-use Rattle.file.specs.declared.Refusal.the-variants.{BadRecord, TooManyNodes, TooManyEdges, TooManyRegisters}
-use Rattle.graph.specs.declared.NodeIndex.{NodeIndex}
+use Rattle.file.proofs.RecordLaws.{at-again}
+use Rattle.insertion.proofs.CaseLaws.{Taken, Cause, taken-or-refused, taken-inserts, cause-refuses}
 use Rattle.graph.specs.declared.CircuitDag.{CircuitDag}
-use Rattle.graph.specs.Dag.{node, size, empty}
+use Rattle.graph.specs.Dag.{empty}
 use Rattle.graph.proofs.ListLaws.{map-at}
 use Rattle.insertion.specs.declared.Answer.{Answer}
 use Rattle.insertion.specs.declared.Answer.the-variants.{Node, Refused}
@@ -28,12 +28,11 @@ use Rattle.insertion.specs.declared.Inserted.{Inserted}
 use Rattle.file.specs.declared.Outcome.the-variants.{Done}
 use Rattle.insertion.specs.declared.Loaded.{Loaded}
 use Rattle.links.specs.Links.{FarRule, LoadingRule, NearAll, ruleOf}
-use Rattle.insertion.specs.Insertion.{grown}
-use Rattle.insertion.specs.Limits.{accepts, insertAs, insertBy, refused, edgesPass, registersPass}
+use Rattle.insertion.specs.Limits.{accepts, insertAs, insertBy, refused}
 use Rattle.insertion.specs.Load.{notLoaded, insertRecords, loadChecked, loadBy}
 use Rattle.insertion.specs.Calls.{graphAfter, allBy, finalBy}
 use Rattle.insertion.specs.Conversion.{broken, insertionOrder, convert, convertChecked, fromCircuit}
-use Rattle.insertion.specs.Built.{atRecord, recordsIn, stepIn, Inserts, LoadInserts, ConversionInserts}
+use Rattle.insertion.specs.Built.{recordsIn, stepIn, Inserts, LoadInserts, ConversionInserts}
 use Rattle.insertion.proofs.BuiltLaws.{sound-built}
 
 -- ---- one record
@@ -47,26 +46,13 @@ numbered i (Refused r) = Refused (atRecord i r)
 abbrev asRecord : ℕ → Inserted → Inserted
 asRecord i x = record { answer = numbered i (x .answer); graph = x .graph }
 
--- the four tests of an insertion
-abbrev tested : Bool → Bool → Bool → Bool → ℕ → NodeIndex → CircuitDag → CircuitDag → Inserted
-tested a b c d i v g h =
-    cond a (refused (BadRecord i) g)
-    (cond b (refused TooManyNodes g)
-    (cond c (refused (TooManyEdges i) g)
-    (cond d (refused (TooManyRegisters i) g)
-    (record { answer = Node v; graph = h }))))
-
-tested-as : (a b c d : Bool) (i : ℕ) (v : NodeIndex) (g h : CircuitDag) → tested a b c d i v g h ≡ asRecord i (tested a b c d 0 v g h)
-tested-as true b c d i v g h = refl
-tested-as false true c d i v g h = refl
-tested-as false false true d i v g h = refl
-tested-as false false false true i v g h = refl
-tested-as false false false false i v g h = refl
-
 -- the number of the record is in the refusals only
 insert-as : (rule : FarRule) (i : ℕ) (g : CircuitDag) (b : List ℕ) → insertAs rule i g b ≡ asRecord i (insertAs rule 0 g b)
-unfolding insertAs
-insert-as rule i g b = tested-as (not (recordRule b)) (leb 512 (size g)) (edgesPass rule g b) (registersPass g b) i (node (size g)) g (grown rule g b)
+insert-as rule i g b = ⊎-elim
+    (λ (t : Taken rule g b). taken-inserts rule g b i t ∙ ap (asRecord i) (sym (taken-inserts rule g b 0 t)))
+    (λ (c : (r : Refusal) × Cause rule g b r).
+    cause-refuses rule g b i (c .0) (c .1) ∙ ap (λ (r : Refusal). refused r g) (sym (at-again i 0 (c .0))) ∙ ap (asRecord i) (sym (cause-refuses rule g b 0 (c .0) (c .1))))
+    (taken-or-refused rule g b)
 
 -- ---- one insertion more
 

@@ -1,5 +1,6 @@
 pub mod PlaceLaws
 pub mod NodeLaws
+pub mod CaseLaws
 pub mod PartLaws
 pub mod SafeEnds
 pub mod SafeEdges

@@ -1,7 +1,8 @@
 -- A list of records part by part: the links, the register maps and the nodes, each made by itself, are those of the graph that the records
 -- make together, and the first refusal is the same. Assumes nothing.
 use mathlib.Core.Path.{_≡_, refl, sym, _∙_, ap}
-use mathlib.Core.Bool.{Bool, true, false, cond, not}
+use mathlib.Core.Bool.{Bool, true, false, cond}
+use mathlib.Core.Logic.{⊎-elim}
 use mathlib.Core.List.{List, [], _∷_, map}
 use Prim.Native.Nat.{ℕ, zero, suc, _+_, _-_, _≤_, _<_}
 use native.Mathlib.Omega.{arith}
@@ -10,28 +11,30 @@ use lib.ListN.{length, take}
 use borrow.Author.Tests.{lt-leb, ltb-true}
 use Rattle.file.specs.Lists.{allOf}
 use Rattle.file.specs.Pairs.{countOf, checkFile, recordAt}
-use Rattle.file.specs.Records.{front, recordRule, qubitsOf, recordOf, parseAt}
+use Rattle.file.specs.Records.{front, good, causeOf, qubitsOf, recordOf, parseAt}
+use Rattle.file.specs.Refusals.{atRecord}
 use Rattle.file.specs.declared.FileCheck.the-variants.{Sound}
 use Rattle.file.specs.declared.Parsed.the-variants.{Record as Parses, Refused as NotTaken}
+use Rattle.file.proofs.BoolLaws.{clash-bool}
 use Rattle.file.proofs.RecordLaws.{checked-at}
 use Rattle.file.specs.declared.Refusal.{Refusal}
-use Rattle.file.specs.declared.Refusal.the-variants.{BadRecord, TooManyNodes, TooManyEdges, TooManyRegisters}
+use Rattle.file.specs.declared.Refusal.the-variants.{TooManyNodes, TooManyEdges, TooManyRegisters}
 use Rattle.graph.specs.declared.CircuitDag.{CircuitDag}
-use Rattle.graph.specs.Dag.{node, size}
+use Rattle.graph.specs.Dag.{size}
 use Rattle.file.specs.declared.Outcome.{Outcome}
 use Rattle.file.specs.declared.Outcome.the-variants.{Done, Refused}
 use Rattle.links.specs.declared.LinkedRecords.{LinkedRecords}
-use Rattle.links.specs.Links.{Linked, FarRule, link, linkAt, withEdges}
+use Rattle.links.specs.Links.{FarRule, link, linkAt, withEdges}
 use Rattle.links.specs.Linking.{linksFrom, linksStopped, linkRecord, linkRecords}
 use Rattle.links.proofs.LinkingLaws.{links-between}
 use Rattle.links.proofs.QubitLaws.{all-first, all-rest}
 use Rattle.registers.specs.declared.Registered.{Registered}
 use Rattle.registers.specs.Registers.{mapsAfter, mapsPass, registersOf, stored, mapsStopped, registersFrom}
-use Rattle.insertion.specs.declared.Answer.the-variants.{Node}
 use Rattle.insertion.specs.Insertion.{facing, linked, registered, commutes, grown}
 use Rattle.insertion.specs.Limits.{refused, edgesPass, registersPass, insertAs}
 use Rattle.insertion.specs.Load.{notLoaded, insertRecords}
 use Rattle.insertion.specs.Parts.{nodeLists, nodeAfter, nodesAfter, assembled}
+use Rattle.insertion.proofs.CaseLaws.{Taken, Cause, itself, nodes, edges, entries, taken-or-refused, taken-inserts, cause-refuses}
 
 -- ---- the parts of a graph
 
@@ -77,42 +80,23 @@ module _ (rule : FarRule) (g : CircuitDag) (b : List ℕ) where
   nodes-at false true e d = rw (e, d) refl
   nodes-at false false e d = rw (e, d) refl
 
--- the rule's answer, by what each part says
+-- what the links say of the record
 module _ (rule : FarRule) (i : ℕ) (g : CircuitDag) (b : List ℕ) where
-  pub broken : recordRule b ≡ false → insertAs rule i g b ≡ refused (BadRecord i) g
-  unfolding insertAs
-  broken h = rw h refl
-
   pub links-full : leb 512 (size g) ≡ true → linkRecord rule i (front b) (qubitsOf b) (linksOf g) ≡ linksStopped (size g) TooManyNodes
   unfolding linkRecord
   links-full h = rw h refl
 
-  module _ (keeps : recordRule b ≡ true) where
-    pub full : leb 512 (size g) ≡ true → insertAs rule i g b ≡ refused TooManyNodes g
-    unfolding insertAs
-    full h = rw (keeps, h) refl
+  module _ (free : leb 512 (size g) ≡ false) where
+    pub links-over : edgesPass rule g b ≡ true → linkRecord rule i (front b) (qubitsOf b) (linksOf g) ≡ linksStopped (size g) (TooManyEdges i)
+    unfolding linkRecord
+    links-over h = rw (free, ← linked-at rule (front b) g b, h) refl
 
-    module _ (free : leb 512 (size g) ≡ false) where
-      pub over : edgesPass rule g b ≡ true → insertAs rule i g b ≡ refused (TooManyEdges i) g
-      unfolding insertAs
-      over h = rw (keeps, free, h) refl
-
-      pub links-over : edgesPass rule g b ≡ true → linkRecord rule i (front b) (qubitsOf b) (linksOf g) ≡ linksStopped (size g) (TooManyEdges i)
-      unfolding linkRecord
-      links-over h = rw (free, ← linked-at rule (front b) g b, h) refl
-
-      module _ (room : edgesPass rule g b ≡ false) where
-        pub links-grown : linkRecord rule i (front b) (qubitsOf b) (linksOf g) ≡ linksOf (grown rule g b)
-        unfolding linkRecord
-        links-grown = let z : ltb 2048 (g .edges .count + length (linkAt rule (front b) (qubitsOf b) (size g) (g .first) (g .last) .others)) ≡ false = rw (← linked-at rule (front b) g b) room in rw (free, z) (links-at rule g b (front b) refl)
-
-        pub many : registersPass g b ≡ true → insertAs rule i g b ≡ refused (TooManyRegisters i) g
-        unfolding insertAs
-        many h = rw (keeps, free, room, h) refl
-
-        pub grows : registersPass g b ≡ false → insertAs rule i g b ≡ record { answer = Node (node (size g)); graph = grown rule g b }
-        unfolding insertAs
-        grows h = rw (keeps, free, room, h) refl
+    pub links-grown : edgesPass rule g b ≡ false → linkRecord rule i (front b) (qubitsOf b) (linksOf g) ≡ linksOf (grown rule g b)
+    unfolding linkRecord
+    links-grown h =
+        let z : ltb 2048 (g .edges .count + length (linkAt rule (front b) (qubitsOf b) (size g) (g .first) (g .last) .others)) ≡ false
+        = rw (← linked-at rule (front b) g b) h in
+        rw (free, z) (links-at rule g b (front b) refl)
 
 -- ---- a list of records
 
@@ -178,8 +162,7 @@ module _ (rule : FarRule) (s : List ℕ) (g : CircuitDag) where
         none-left : registersIn rule s g (i ∷ l) ≡ mapsOf g
         none-left = let z : linksIn rule s g (i ∷ l) .accepted - size g ≡ 0 = rw e (omega arith) in rw z refl
 
-    module _ (there : recordRule b ≡ true → parseAt s i ≡ Parses (recordOf b)) (free : leb 512 (size g) ≡ false) (keeps : recordRule b ≡ true)
-        (room : edgesPass rule g b ≡ false) where
+    module _ (there : parseAt s i ≡ Parses (recordOf b)) (keeps : good b ≡ true) (free : leb 512 (size g) ≡ false) (room : edgesPass rule g b ≡ false) where
       abbrev h : CircuitDag
       h = grown rule g b
 
@@ -187,7 +170,7 @@ module _ (rule : FarRule) (s : List ℕ) (g : CircuitDag) where
       grown-size = ap (λ (x : LinkedRecords). x .accepted) (sym (links-at rule g b (front b) refl))
 
       links-on : linksIn rule s g (i ∷ l) ≡ linksIn rule s h l
-      links-on = links-next rule s g i l (there keeps) (linksOf h) (links-grown rule i g b keeps free room)
+      links-on = links-next rule s g i l there (linksOf h) (links-grown rule i g b free room)
 
       -- the record is left for the register maps
       taken : (k : ℕ) → size g < k → take (k - size g) (i ∷ l) ≡ i ∷ take (k - (size g + 1)) l
@@ -203,7 +186,7 @@ module _ (rule : FarRule) (s : List ℕ) (g : CircuitDag) where
       passes-here : registersPass g b ≡ true → Together rule s g (i ∷ l) (linksIn rule s g (i ∷ l)) (registersIn rule s g (i ∷ l))
       unfolding insertRecords registersFrom
       passes-here p = record {
-        many = λ c q. let z : Refused (TooManyRegisters i) ≡ Refused c = rw stops-here at q in let y : TooManyRegisters i ≡ c = cc in rw (many rule i g b keeps free room p, insertRecords, y) refl;
+        many = λ c q. let z : Refused (TooManyRegisters i) ≡ Refused c = rw stops-here at q in let y : TooManyRegisters i ≡ c = cc in rw (cause-refuses rule g b i (TooManyRegisters 0) (entries keeps free room p refl), insertRecords, y) refl;
         stops = λ c q e. not-both (TooManyRegisters i) (sym (rw stops-here at q));
         whole = λ q e. not-both (TooManyRegisters i) (sym (rw stops-here at q));
       }
@@ -221,7 +204,7 @@ module _ (rule : FarRule) (s : List ℕ) (g : CircuitDag) where
 
         inserts-on : insertRecords rule s g (i ∷ l) ≡ insertRecords rule s h l
         unfolding insertRecords
-        inserts-on = rw (grows rule i g b keeps free room fit, insertRecords) (rw (grows rule i g b keeps free room fit) refl)
+        inserts-on = let e = taken-inserts rule g b i (record { whole = keeps; free = free; room = room; fit = fit }) in rw (e, insertRecords) (rw e refl)
 
         nodes-on : nodesAfter s (nodeLists g) (i ∷ l) ≡ nodesAfter s (nodeLists h) l
         unfolding nodesAfter
@@ -237,9 +220,14 @@ module _ (rule : FarRule) (s : List ℕ) (g : CircuitDag) where
 pub together : (rule : FarRule) (s : List ℕ) → checkFile s ≡ Sound → (l : List ℕ) → allOf (λ i. ltb i (countOf s)) l ≡ true → (g : CircuitDag)
     → size g + length l ≤ 512 → Together rule s g l (linksIn rule s g l) (registersIn rule s g l)
 together rule s sure [] below g h = together-none rule s g
-together rule s sure (i ∷ l) below g h =
-    by-rule (recordRule b) (edgesPass rule g b) (registersPass g b) refl refl refl
-    (λ k. together rule s sure l (all-rest (λ j. ltb j (countOf s)) i l below) (grown rule g b) k)
+together rule s sure (i ∷ l) below g h = ⊎-elim
+    (λ (t : Taken rule g b).
+    let e = there (t .whole) in
+    let k : size (grown rule g b) + length l ≤ 512 = omega (arith, h, grown-size rule s g i l e (t .whole) (t .free) (t .room)) in
+    together-on rule s g i l e (t .whole) (t .free) (t .room) (t .fit)
+    (together rule s sure l (all-rest (λ j. ltb j (countOf s)) i l below) (grown rule g b) k))
+    (λ (c : (r : Refusal) × Cause rule g b r). by-cause (c .0) (c .1))
+    (taken-or-refused rule g b)
   where
     b : List ℕ
     b = recordAt s i
@@ -247,21 +235,21 @@ together rule s sure (i ∷ l) below g h =
     free : leb 512 (size g) ≡ false
     free = lt-leb 512 (size g) (omega (arith, h))
 
-    at : parseAt s i ≡ cond (recordRule b) (Parses (recordOf b)) (NotTaken (BadRecord i))
+    at : parseAt s i ≡ cond (good b) (Parses (recordOf b)) (NotTaken (atRecord i (causeOf b)))
     at = checked-at s i sure (ltb-true i (countOf s) (all-first (λ j. ltb j (countOf s)) i l below))
 
-    there : recordRule b ≡ true → parseAt s i ≡ Parses (recordOf b)
-    there e = at ∙ ap (λ (c : Bool). cond c (Parses (recordOf b)) (NotTaken (BadRecord i))) e
+    there : good b ≡ true → parseAt s i ≡ Parses (recordOf b)
+    there e = at ∙ ap (λ (c : Bool). cond c (Parses (recordOf b)) (NotTaken (atRecord i (causeOf b)))) e
 
-    not-taken : recordRule b ≡ false → parseAt s i ≡ NotTaken (BadRecord i)
-    not-taken e = at ∙ ap (λ (c : Bool). cond c (Parses (recordOf b)) (NotTaken (BadRecord i))) e
+    not-taken : good b ≡ false → (r : Refusal) → r ≡ causeOf b → parseAt s i ≡ NotTaken (atRecord i r)
+    not-taken e r q = at ∙ ap (λ (c : Bool). cond c (Parses (recordOf b)) (NotTaken (atRecord i (causeOf b)))) e
+        ∙ ap (λ (x : Refusal). NotTaken (atRecord i x)) (sym q)
 
-    by-rule : (p q r : Bool) → recordRule b ≡ p → edgesPass rule g b ≡ q → registersPass g b ≡ r
-        → (size (grown rule g b) + length l ≤ 512 → Together rule s (grown rule g b) l (linksIn rule s (grown rule g b) l) (registersIn rule s (grown rule g b) l))
-        → Together rule s g (i ∷ l) (linksIn rule s g (i ∷ l)) (registersIn rule s g (i ∷ l))
-    by-rule false q r e d c t = stopped-here rule s g i l (BadRecord i) (links-not rule s g i l (BadRecord i) (not-taken e)) (broken rule i g b e)
-    by-rule true true r e d c t =
-        let stop = links-next rule s g i l (there e) (linksStopped (size g) (TooManyEdges i)) (links-over rule i g b e free d) in
-        stopped-here rule s g i l (TooManyEdges i) stop (over rule i g b e free d)
-    by-rule true false true e d c t = passes-here rule s g i l there free e d c
-    by-rule true false false e d c t = together-on rule s g i l there free e d c (t (omega (arith, h, grown-size rule s g i l there free e d)))
+    by-cause : (r : Refusal) → Cause rule g b r → Together rule s g (i ∷ l) (linksIn rule s g (i ∷ l)) (registersIn rule s g (i ∷ l))
+    by-cause r (itself a q) =
+        stopped-here rule s g i l (atRecord i r) (links-not rule s g i l (atRecord i r) (not-taken a r q)) (cause-refuses rule g b i r (itself a q))
+    by-cause r (nodes a f q) = absurd (clash-bool f free)
+    by-cause r (edges a f e q) =
+        let stop = links-next rule s g i l (there a) (linksStopped (size g) (TooManyEdges i)) (links-over rule i g b f e) in
+        stopped-here rule s g i l (TooManyEdges i) stop (cause-refuses rule g b i (TooManyEdges 0) (edges a f e refl))
+    by-cause r (entries a f e m q) = passes-here rule s g i l (there a) a f e m

@@ -15,7 +15,7 @@ use Rattle.file.specs.Lists.{allOf, keep, countFrom, upTo}
 use Rattle.file.specs.Pairs.{countOf, checkFile, recordAt}
 use Rattle.file.specs.Records.{front, kind, qubitForm, label, recordRule}
 use Rattle.file.specs.declared.Refusal.{Refusal}
-use Rattle.file.specs.declared.Refusal.the-variants.{BadRecord, TooManyNodes, TooManyEdges, TooManyRegisters}
+use Rattle.file.specs.Refusals.{atRecord}
 use Rattle.file.specs.declared.FileCheck.{FileCheck}
 use Rattle.file.specs.declared.FileCheck.the-variants.{Sound, Refused as BadFile}
 use Rattle.graph.specs.declared.CircuitDag.{CircuitDag}
@@ -33,7 +33,8 @@ use Rattle.insertion.specs.declared.Inserted.{Inserted}
 use Rattle.insertion.specs.declared.Loaded.{Loaded}
 use Rattle.links.specs.Links.{nearAll}
 use Rattle.insertion.specs.Insertion.{grown}
-use Rattle.insertion.specs.Limits.{insertAs, edgesPass, registersPass}
+use Rattle.insertion.specs.Limits.{insertAs}
+use Rattle.insertion.proofs.CaseLaws.{Taken, Cause, accepted, taken-or-refused, taken-inserts, cause-refuses}
 use Rattle.insertion.specs.Load.{notLoaded, insertRecords}
 use Rattle.queries.proofs.PlaceOrder.{place-here}
 use Rattle.queries.proofs.CircuitLaws.{kind-other, first-whole}
@@ -51,22 +52,12 @@ stored l n a d f h each e v k = ⊎-elim
     (split-lt v n k)
 
 -- an insertion that is not refused grows the graph
-insert-cases : (i : ℕ) (g : CircuitDag) (b : List ℕ)
-    → ((size g < 512) × (insertAs nearAll i g b ≡ record { answer = IsNode (node (size g)); graph = grown nearAll g b })) ⊎ ((r : Refusal) × (insertAs nearAll i g b .answer ≡ NotInserted r))
-unfolding insertAs
-insert-cases i g b = ⊎-elim
-    (λ (e : recordRule b ≡ true). ⊎-elim
-    (λ (f : leb 512 (size g) ≡ true). inr (TooManyNodes, rw (e, f) refl))
-    (λ (f : leb 512 (size g) ≡ false). ⊎-elim
-    (λ (h : edgesPass nearAll g b ≡ true). inr (TooManyEdges i, rw (e, f, h) refl))
-    (λ (h : edgesPass nearAll g b ≡ false). ⊎-elim
-    (λ (k : registersPass g b ≡ true). inr (TooManyRegisters i, rw (e, f, h, k) refl))
-    (λ (k : registersPass g b ≡ false). inl (omega (arith, leb-false 512 (size g) f), rw (e, f, h, k) refl))
-    (bool-cases (registersPass g b)))
-    (bool-cases (edgesPass nearAll g b)))
-    (bool-cases (leb 512 (size g))))
-    (λ (e : recordRule b ≡ false). inr (BadRecord i, rw e refl))
-    (bool-cases (recordRule b))
+grows-or-stops : (i : ℕ) (g : CircuitDag) (b : List ℕ)
+    → ((size g < 512) × (insertAs nearAll i g b ≡ accepted nearAll g b)) ⊎ ((r : Refusal) × (insertAs nearAll i g b .answer ≡ NotInserted r))
+grows-or-stops i g b = ⊎-elim
+    (λ (t : Taken nearAll g b). inl (leb-false 512 (size g) (t .free), taken-inserts nearAll g b i t))
+    (λ (c : (r : Refusal) × Cause nearAll g b r). inr (atRecord i (c .0), ap (λ (x : Inserted). x .answer) (cause-refuses nearAll g b i (c .0) (c .1))))
+    (taken-or-refused nearAll g b)
 
 module _ (g : CircuitDag) (b : List ℕ) (e : front b ≡ false) where
   nodes-grown : grown nearAll g b .nodes ≡ record { count = size g + 1; kind = set (g .nodes .kind) (size g) (kind b); form = set (g .nodes .form) (size g) (qubitForm b); label = set (g .nodes .label) (size g) (label b); place = set (g .nodes .place) (size g) (pos (g .backs)) }
@@ -184,7 +175,7 @@ module _ (s : List ℕ) where
       let e : Refused (x .0) ≡ Done = sym (ap (λ (y : Loaded). y .answer) (stops i l g (x .0) (x .1))) ∙ h in
       let z : _≡_ {A = ℕ} 0 1 = cc in
       absurd (omega arith))
-      (insert-cases i g (recordAt s i))
+      (grows-or-stops i g (recordAt s i))
 
 -- ---- an accepted file
 

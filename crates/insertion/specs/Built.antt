@@ -10,8 +10,8 @@ use Rattle.file.specs.Lists.{keep, upTo}
 use Rattle.file.specs.Pairs.{countOf, checkFile, recordAt}
 use Rattle.file.specs.declared.FileCheck.the-variants.{Sound}
 use Rattle.file.specs.declared.Refusal.{Refusal}
-use Rattle.file.specs.declared.Refusal.the-variants.{FileTooShort, TooManyRecords, BadPair, BadRecord, TooManyNodes, TooManyEdges, TooManyRegisters}
-use Rattle.file.specs.declared.Refusal.the-variants.{Absent, NotInLayer, ShortBuffer, Unsound}
+use Rattle.file.specs.Refusals.{atRecord}
+use Rattle.file.specs.declared.Refusal.the-variants.{Unsound}
 use Rattle.graph.specs.Soundness.{sound}
 use Rattle.insertion.specs.declared.Answer.the-variants.{Refused}
 use Rattle.insertion.specs.declared.Inserted.{Inserted}
@@ -29,20 +29,6 @@ pub record SoundBuilt (l : List Call) : Type 0 where
   pub sound : sound (built l) ≡ true
   pub never : (rule : LoadingRule) (s : List ℕ) → insertBy rule (built l) s ≡ insertAs (ruleOf rule) 0 (built l) s
   pub never-refused : (rule : LoadingRule) (s : List ℕ) → insertBy rule (built l) s .answer ≡ Refused Unsound → ⊥
-
--- a refusal of a single insertion, "record (0 on insertion)", with the record's number in the file
-abbrev pub atRecord : ℕ → Refusal → Refusal
-atRecord i FileTooShort = FileTooShort
-atRecord i TooManyRecords = TooManyRecords
-atRecord i (BadPair k) = BadPair k
-atRecord i (BadRecord k) = BadRecord i
-atRecord i TooManyNodes = TooManyNodes
-atRecord i (TooManyEdges k) = TooManyEdges i
-atRecord i (TooManyRegisters k) = TooManyRegisters i
-atRecord i Absent = Absent
-atRecord i NotInLayer = NotInLayer
-atRecord i ShortBuffer = ShortBuffer
-atRecord i Unsound = Unsound
 
 -- the file's records with these numbers
 abbrev pub recordsIn : List ℕ → List ℕ → List (List ℕ)

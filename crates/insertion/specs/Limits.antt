@@ -4,9 +4,10 @@ use mathlib.Core.List.{List}
 use Prim.Native.Nat.{ℕ, _+_}
 use lib.Dec.{ltb, leb}
 use lib.ListN.{length}
-use Rattle.file.specs.Records.{front, recordRule}
+use Rattle.file.specs.Records.{front, good, causeOf}
+use Rattle.file.specs.Refusals.{atRecord}
 use Rattle.file.specs.declared.Refusal.{Refusal}
-use Rattle.file.specs.declared.Refusal.the-variants.{BadRecord, TooManyNodes, TooManyEdges, TooManyRegisters, Unsound}
+use Rattle.file.specs.declared.Refusal.the-variants.{TooManyNodes, TooManyEdges, TooManyRegisters, Unsound}
 use Rattle.graph.specs.declared.CircuitDag.{CircuitDag}
 use Rattle.insertion.specs.declared.Answer.{Answer}
 use Rattle.insertion.specs.declared.Answer.the-variants.{Node, Refused}
@@ -34,10 +35,10 @@ edgesPass rule g s = ltb 2048 (g .edges .count + length (linked rule (facing (fr
 abbrev pub registersPass : CircuitDag → List ℕ → Bool
 registersPass g s = mapsPass (registered (facing (front s) g) s)
 
--- the record s, which is record i of its file, on a sound graph: "then per record 4 to 7"
+-- the record s, which is record i of its file, on a sound graph: "then per record 4 to 7", of which 4 is its own
 unfoldable pub insertAs : FarRule → ℕ → CircuitDag → List ℕ → Inserted
 insertAs rule i g s =
-    cond (not (recordRule s)) (refused (BadRecord i) g)
+    cond (not (good s)) (refused (atRecord i (causeOf s)) g)
     (cond (leb 512 (size g)) (refused TooManyNodes g)
     (cond (edgesPass rule g s) (refused (TooManyEdges i) g)
     (cond (registersPass g s) (refused (TooManyRegisters i) g)

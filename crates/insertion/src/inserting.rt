@@ -41,25 +41,26 @@ fn node_lists(g: CircuitDag) -> NodeLists
     }
 }
 
-// The record on a sound graph: 4, 5, 6, 7.
-fn insert_sound(rule: LoadingRule, g: CircuitDag, part: &[u8]) -> Inserted
+// Record i on a sound graph: 4, 5, 6, 7.
+fn insert_sound(rule: LoadingRule, i: usize, g: CircuitDag, part: &[u8]) -> Inserted
     requires { ⌜ sound g ≡ true ⌝ }
-    ensures { λ r. ⌜ r ≡ insertAs (ruleOf rule) 0 g (now (part .entry)) ⌝ }
+    ensures { λ r. ⌜ r ≡ insertAs (ruleOf rule) i g (now (part .entry)) ⌝ }
 {
     let parsed = file::parse_record(part);
-    let Parsed::Record(s) = parsed else {
-        return not_inserted(Refusal::BadRecord(0), g);
+    let s = match parsed {
+        Parsed::Record(s) => s,
+        Parsed::Refused(c) => return not_inserted(file::at_record(i, c), g),
     };
     let n = g.nodes.count;
     let v = NodeIndex(n as u16);
     let front = s.front;
     let qubits = s.qubits;
-    let x = links::link_node(rule, front, qubits, v, g.edges, g.first, g.last);
+    let x = links::link_node(rule, i, front, qubits, v, g.edges, g.first, g.last);
     let answer = x.answer;
     if let Outcome::Refused(cause) = answer {
         return not_inserted(cause, g);
     }
-    let r = registers::register_record(g.first_registers, g.last_registers, part, v);
+    let r = registers::register_record(i, g.first_registers, g.last_registers, part, v);
     let registered = r.answer;
     if let Outcome::Refused(cause) = registered {
         return not_inserted(cause, g);
@@ -75,7 +76,7 @@ pub fn insert_by(rule: LoadingRule, g: CircuitDag, part: &[u8]) -> Inserted
     ensures { λ r. ⌜ r ≡ insertBy rule g (now (part .entry)) ⌝ }
 {
     if graph::is_sound(g) {
-        return insert_sound(rule, g, part);
+        return insert_sound(rule, 0, g, part);
     }
     not_inserted(Refusal::Unsound, g)
 }

@@ -90,16 +90,16 @@ pub when-done : (x : LinkedRecords) (g : Refusal → LinkedRecords) (a : Outcome
 when-done x g Done e = refl
 when-done x g (Refused r) e = let z : _≡_ {A = ℕ} 0 1 = cc in absurd (omega arith)
 
-module _ (rule : FarRule) (f : Bool) (q : InvolvedQubits) (v : NodeIndex) (es : Edges) (first last : End) where
-  pub unfit-node : linksFit (v .0) es first last ≡ false → linksKept v es first last Unsound ≡ linkNode rule f q v es first last
+module _ (rule : FarRule) (i : ℕ) (f : Bool) (q : InvolvedQubits) (v : NodeIndex) (es : Edges) (first last : End) where
+  pub unfit-node : linksFit (v .0) es first last ≡ false → linksKept v es first last Unsound ≡ linkNode rule i f q v es first last
   unfolding linkNode
   unfit-node h = rw h refl
 
-  node-done : linksFit (v .0) es first last ≡ true → (y : LinkedRecords) → linkRecord rule 0 f q (linksFrom (v .0) es first last) ≡ y → y .answer ≡ Done → y ≡ linkNode rule f q v es first last
+  node-done : linksFit (v .0) es first last ≡ true → (y : LinkedRecords) → linkRecord rule i f q (linksFrom (v .0) es first last) ≡ y → y .answer ≡ Done → y ≡ linkNode rule i f q v es first last
   unfolding linkNode
-  node-done h y e d = rw h (sym e ∙ sym (when-done (linkRecord rule 0 f q (linksFrom (v .0) es first last)) (linksKept v es first last) _ (ap (λ (x : LinkedRecords). x .answer) e ∙ d)))
+  node-done h y e d = rw h (sym e ∙ sym (when-done (linkRecord rule i f q (linksFrom (v .0) es first last)) (linksKept v es first last) _ (ap (λ (x : LinkedRecords). x .answer) e ∙ d)))
 
-  node-refused : linksFit (v .0) es first last ≡ true → (k : ℕ) (c : Refusal) → linkRecord rule 0 f q (linksFrom (v .0) es first last) ≡ linksStopped k c → linksKept v es first last c ≡ linkNode rule f q v es first last
+  node-refused : linksFit (v .0) es first last ≡ true → (k : ℕ) (c : Refusal) → linkRecord rule i f q (linksFrom (v .0) es first last) ≡ linksStopped k c → linksKept v es first last c ≡ linkNode rule i f q v es first last
   unfolding linkNode
   node-refused h k c e = rw (h, e) refl
 
@@ -144,9 +144,9 @@ module _ (rule : FarRule) (i : ℕ) (f : Bool) (q : InvolvedQubits) (k : ℕ) (e
         edges = rw (← j .joined) (a .is)
 
 -- .. on the ends and edges of a graph, whose numbers are lent
-module _ (rule : FarRule) (f : Bool) (q : InvolvedQubits) (v : NodeIndex) (es : Edges) (first last : End) (fit : linksFit (v .0) es first last ≡ true) where
-  pub node-full : 512 ≤ v .0 → linksKept v es first last TooManyNodes ≡ linkNode rule f q v es first last
-  node-full h = node-refused rule f q v es first last fit (v .0) TooManyNodes (nodes-full rule 0 f q (v .0) es first last h)
+module _ (rule : FarRule) (i : ℕ) (f : Bool) (q : InvolvedQubits) (v : NodeIndex) (es : Edges) (first last : End) (fit : linksFit (v .0) es first last ≡ true) where
+  pub node-full : 512 ≤ v .0 → linksKept v es first last TooManyNodes ≡ linkNode rule i f q v es first last
+  node-full h = node-refused rule i f q v es first last fit (v .0) TooManyNodes (nodes-full rule i f q (v .0) es first last h)
 
   module _ (small : v .0 < 512) (a b : EndState) (ea : a ≡ endStateOf first) (eb : b ≡ endStateOf last) (s : JoinedEnds) (fn ln : List ℕ) (fb lb : List Bool) (others : List ℕ)
       (j : JoinedEndsBy f (linkAt rule f q (v .0) (endOf (first .node) a (first .block)) (endOf (last .node) b (last .block))) (v .0 + 1) s fn ln fb lb others) where
@@ -155,14 +155,14 @@ module _ (rule : FarRule) (f : Bool) (q : InvolvedQubits) (v : NodeIndex) (es : 
         (λ t. linkAt rule f q (v .0) (endOf (first .node) (ea t) (first .block)) (endOf (last .node) (eb t) (last .block))) j
 
     pub node-bounded : EndSized first → EndSized last → s .count ≤ edgeBound q
-    node-bounded y z = bounded rule 0 f q (v .0) es first last small s fn ln fb lb others lent (y .node) (z .node)
+    node-bounded y z = bounded rule i f q (v .0) es first last small s fn ln fb lb others lent (y .node) (z .node)
 
-    pub node-stops : 2048 < es .count + s .count → linksKept v es first last (TooManyEdges 0) ≡ linkNode rule f q v es first last
-    node-stops h = node-refused rule f q v es first last fit (v .0) (TooManyEdges 0) (edges-full rule 0 f q (v .0) es first last small s fn ln fb lb others lent h)
+    pub node-stops : 2048 < es .count + s .count → linksKept v es first last (TooManyEdges i) ≡ linkNode rule i f q v es first last
+    node-stops h = node-refused rule i f q v es first last fit (v .0) (TooManyEdges i) (edges-full rule i f q (v .0) es first last small s fn ln fb lb others lent h)
 
     pub node-grows : es .count + s .count ≤ 2048 → (from to : List ℕ) → EdgesAdded f (v .0) others (s .count) (es .count) (es .from) (es .to) from to
-        → linksFrom (v .0 + 1) (record { count = es .count + s .count; from = from; to = to }) (endOf fn (s .first) fb) (endOf ln (s .last) lb) ≡ linkNode rule f q v es first last
-    node-grows h from to e = node-done rule f q v es first last fit _ (grows rule 0 f q (v .0) es first last small s fn ln fb lb others lent h from to e) refl
+        → linksFrom (v .0 + 1) (record { count = es .count + s .count; from = from; to = to }) (endOf fn (s .first) fb) (endOf ln (s .last) lb) ≡ linkNode rule i f q v es first last
+    node-grows h from to e = node-done rule i f q v es first last fit _ (grows rule i f q (v .0) es first last small s fn ln fb lb others lent h from to e) refl
 
 -- ---- `link_records`
 
@@ -174,7 +174,7 @@ module _ (file part : List ℕ) (i : ℕ) (x : Parsed) (e : part ≡ recordAt fi
   pub read-taken : (r : Record) → x ≡ Parses r → parseAt file i ≡ Parses r
   read-taken r q = taken file i r (sym read ∙ q)
 
-  pub read-refused : (c : Refusal) → x ≡ NotTaken c → (d : Refusal) → d ≡ refusalFrom (pairPlace file i) i → parseAt file i ≡ NotTaken d
+  pub read-refused : (c : Refusal) → x ≡ NotTaken c → (d : Refusal) → d ≡ refusalFrom (pairPlace file i) c i → parseAt file i ≡ NotTaken d
   read-refused c q d h = rw h (RecordLaws.not-taken file i c (sym read ∙ q))
 
 -- the records that are left, after one that gives y

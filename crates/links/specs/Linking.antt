@@ -57,7 +57,7 @@ linksFit v edges first last = leb (edges .count) 2048 && (allOf (ifPresent (λ u
 abbrev pub linksKept : NodeIndex → Edges → End → End → Refusal → LinkedRecords
 linksKept v edges first last r = record { accepted = v .0; answer = Refused r; edges = edges; first = first; last = last }
 
--- one record as node v, "record (0 on insertion)", on the ends and edges of a graph with v nodes: 11 where they break these clauses, then 5, 6
-unfoldable pub linkNode : FarRule → Bool → InvolvedQubits → NodeIndex → Edges → End → End → LinkedRecords
-linkNode rule f qubits v edges first last = let y = linkRecord rule 0 f qubits (linksFrom (v .0) edges first last) in
+-- record i as node v on the ends and edges of a graph with v nodes: 11 where they break these clauses, then 5, 6
+unfoldable pub linkNode : FarRule → ℕ → Bool → InvolvedQubits → NodeIndex → Edges → End → End → LinkedRecords
+linkNode rule i f qubits v edges first last = let y = linkRecord rule i f qubits (linksFrom (v .0) edges first last) in
     cond (linksFit (v .0) edges first last) (elim (y .answer) [ Done ↦ y | Refused r ↦ linksKept v edges first last r ]) (linksKept v edges first last Unsound)

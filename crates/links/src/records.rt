@@ -27,15 +27,15 @@ use graph::Edges;
 use graph::End;
 use graph::NodeIndex;
 
-// Why record i of a file is not taken: the refusal of its place, else 4. Only a record that was not parsed is asked, so
-// that one that is taken is located once.
-fn record_refusal(file: &[u8], i: usize) -> Refusal
-    ensures { λ r. ⌜ r ≡ refusalFrom (pairPlace (now (file .entry)) i) i ⌝ }
+// Why record i of a file is not taken, whose bytes were refused with c: the refusal of its place, else c with its number.
+// Only a record that was not parsed is asked, so that one that is taken is located once.
+fn record_refusal(file: &[u8], i: usize, c: Refusal) -> Refusal
+    ensures { λ r. ⌜ r ≡ refusalFrom (pairPlace (now (file .entry)) i) c i ⌝ }
 {
     let place = file::locate_pair(file, i);
     match place {
-        Place::Refused(c) => c,
-        Place::At { .. } => Refusal::BadRecord(i),
+        Place::Refused(r) => r,
+        Place::At { .. } => file::at_record(i, c),
     }
 }
 
@@ -152,10 +152,11 @@ fn links_fit(n: usize, edges: Edges, first: End, last: End) -> bool
     false
 }
 
-// A record at this end with these qubits, as node v, on the ends and edges of a graph with v nodes: 11 where an end names another node or there
+// Record i, at this end and with these qubits, as node v, on the ends and edges of a graph with v nodes: 11 where an end names another node or there
 // are too many edges, then 5, 6. A refusal leaves them as they were.
 pub fn link_node(
     rule: LoadingRule,
+    i: usize,
     front: bool,
     qubits: InvolvedQubits,
     v: NodeIndex,
@@ -163,7 +164,7 @@ pub fn link_node(
     first: End,
     last: End,
 ) -> LinkedRecords
-    ensures { λ r. ⌜ r ≡ linkNode (ruleOf rule) front qubits v edges first last ⌝ }
+    ensures { λ r. ⌜ r ≡ linkNode (ruleOf rule) i front qubits v edges first last ⌝ }
 {
     let n = v.0 as usize;
     if !links_fit(n, edges, first, last) {
@@ -195,7 +196,7 @@ pub fn link_node(
         rule,
     );
     if edges_pass(edges.count, joined, qubits) {
-        return links_kept(v, edges, first, last, Refusal::TooManyEdges(0));
+        return links_kept(v, edges, first, last, Refusal::TooManyEdges(i));
     }
     add_edges(front, v, &others, joined, &mut from, &mut to, edges.count);
     links_held(
@@ -231,8 +232,9 @@ pub fn link_records(rule: LoadingRule, file: &[u8], order: &[u16]) -> LinkedReco
     while k < order.len() {
         let i = file::to_index(order[k]);
         let parsed = file::parse_record(file::part_of(file, i));
-        let Parsed::Record(r) = parsed else {
-            return links_stopped(k, record_refusal(file, i));
+        let r = match parsed {
+            Parsed::Record(r) => r,
+            Parsed::Refused(c) => return links_stopped(k, record_refusal(file, i, c)),
         };
         if 512 <= k {
             return links_stopped(k, Refusal::TooManyNodes);

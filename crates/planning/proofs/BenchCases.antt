@@ -6,7 +6,7 @@ use Prim.Native.Nat.{ℕ, _≤_}
 use native.Mathlib.Omega.{arith}
 use Rattle.file.specs.Lists.{anyOf, allOf, keep, distinct, countFrom, markedFrom}
 use Rattle.file.specs.Pairs.{numberAt}
-use Rattle.file.specs.Records.{definitionRule, qubitRule, entryBefore, ascendFrom, setRule, tailRule, recordRule, qubitsBy, classicalOf}
+use Rattle.file.specs.Records.{definitionRule, qubitRule, entryBefore, ascendFrom, setRule, tailRule, recordRule, good, causeOf, qubitsBy, classicalOf}
 use Rattle.file.specs.declared.Refusal.the-variants.{Absent}
 use Rattle.graph.specs.Dag.{node, atQubit, noEnd, noRegisters, empty}
 use Rattle.graph.specs.Soundness.{ascends, sound}
@@ -30,7 +30,7 @@ use Rattle.planning.specs.BenchTable.{B, BAll, NameSet, case2, case4, ca
 
 -- a declaration that says `unfolding rules` computes with every rule
 unfoldable pub rules : ℕ
-unfolding numberAt anyOf allOf keep distinct countFrom markedFrom definitionRule qubitRule entryBefore ascendFrom setRule tailRule recordRule qubitsBy classicalOf noEnd noRegisters empty ascends sound put define setKeys registersAfter qubitsFrom linkQubits linkSet mapped linkAll grown insertAs insertBy graphAfter reachedBy blocking remove layerAfter newFrontLayer placeIn sortByPlace circuitOf marks start joined followers blocksFrom blocks numberFrom wholeWalk acceptedFrom chainFrom chainOf
+unfolding numberAt anyOf allOf keep distinct countFrom markedFrom definitionRule qubitRule entryBefore ascendFrom setRule tailRule recordRule good causeOf qubitsBy classicalOf noEnd noRegisters empty ascends sound put define setKeys registersAfter qubitsFrom linkQubits linkSet mapped linkAll grown insertAs insertBy graphAfter reachedBy blocking remove layerAfter newFrontLayer placeIn sortByPlace circuitOf marks start joined followers blocksFrom blocks numberFrom wholeWalk acceptedFrom chainFrom chainOf
 rules = 0
 
 -- a list without a front operation has no condition on all-qubit operations

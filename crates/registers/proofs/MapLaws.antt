@@ -11,16 +11,20 @@ use lib.Seq.{drop-cons}
 use borrow.Author.Tests.{le-leb, lt-leb, le-ltb, ltb-false, leb-true, not-false}
 use Rattle.file.specs.Lists.{allOf}
 use Rattle.file.specs.Pairs.{recordAt}
-use Rattle.file.specs.Records.{front, classicalOf, recordRule, recordOf}
+use Rattle.file.specs.Records.{front, classicalOf, good, recordOf, parseRecord}
+use Rattle.file.specs.Refusals.{atRecord}
 use Rattle.file.specs.declared.InvolvedClassical.{InvolvedClassical}
 use Rattle.file.specs.declared.InvolvedClassical.the-variants.{None}
 use Rattle.file.specs.declared.Record.{Record}
-use Rattle.file.specs.declared.Refusal.the-variants.{BadRecord, TooManyNodes, TooManyRegisters, Unsound}
+use Rattle.file.specs.declared.Parsed.the-variants.{Refused as NotParsed}
+use Rattle.file.specs.declared.Refusal.{Refusal}
+use Rattle.file.specs.declared.Refusal.the-variants.{TooManyNodes, TooManyRegisters, Unsound}
 use Rattle.graph.specs.declared.NodeIndex.{NodeIndex}
 use Rattle.graph.specs.declared.Registers.{Registers}
 use Rattle.graph.specs.Dag.{Entry, entriesOf, noRegisters}
 use Rattle.graph.specs.Soundness.{keysDistinct, registerMapRule}
 use Rattle.file.proofs.BoolLaws.{and-l, and-r, or-l, or-r}
+use Rattle.file.proofs.RecordLaws.{not-parsed}
 use Rattle.graph.proofs.SizeLaws.{RegistersSized}
 use Rattle.links.specs.declared.LinkedRecords.{LinkedRecords}
 use Rattle.links.specs.Links.{FarRule}
@@ -166,33 +170,33 @@ module _ (first last : Registers) (v : NodeIndex) (b : Bool) (test : b ≡ (regi
         may-be-lent (v .0) last y (and-r (registerMapRule (v .0) first) (registerMapRule (v .0) last) h),
       )
 
-  module _ (s : List ℕ) where
-    pub not-maps : not b ≡ true → mapsKept v first last Unsound ≡ registerRecord first last s v
+  module _ (i : ℕ) (s : List ℕ) where
+    pub not-maps : not b ≡ true → mapsKept v first last Unsound ≡ registerRecord i first last s v
     unfolding registerRecord
     not-maps t = rw (← test, t) refl
 
     module _ (t : not b ≡ false) where
-      pub broken : recordRule s ≡ false → mapsKept v first last (BadRecord 0) ≡ registerRecord first last s v
+      pub broken : (x : Refusal) → parseRecord s ≡ NotParsed x → (c : Refusal) → c ≡ atRecord i x → mapsKept v first last c ≡ registerRecord i first last s v
       unfolding registerRecord
-      broken h = rw (← test, t, h) refl
+      broken x p c e = let h = not-parsed s x p in rw (← test, t, h .0, e, h .1) refl
 
-      module _ (keeps : recordRule s ≡ true) where
-        pub no-node : 512 ≤ v .0 → mapsKept v first last TooManyNodes ≡ registerRecord first last s v
+      module _ (keeps : good s ≡ true) where
+        pub no-node : 512 ≤ v .0 → mapsKept v first last TooManyNodes ≡ registerRecord i first last s v
         unfolding registerRecord
         no-node h = rw (← test, t, keeps, le-leb 512 (v .0) h) refl
 
         module _ (free : v .0 < 512) (first′ last′ : Registers) (become : EndsBecome (front s) (classicalOf s) s (v .0) first last first′ last′) where
-          pub too-many : countsPass first′ last′ ≡ true → mapsKept v first last (TooManyRegisters 0) ≡ registerRecord first last s v
+          pub too-many : countsPass first′ last′ ≡ true → mapsKept v first last (TooManyRegisters i) ≡ registerRecord i first last s v
           unfolding registerRecord
           too-many h = rw (← test, t, keeps, lt-leb 512 (v .0) free, passes s (v .0) first last first′ last′ become true h) refl
 
-          pub entered : countsPass first′ last′ ≡ false → (n : ℕ) → n ≡ v .0 → registersOf (n + 1) first′ last′ ≡ registerRecord first last s v
+          pub entered : countsPass first′ last′ ≡ false → (n : ℕ) → n ≡ v .0 → registersOf (n + 1) first′ last′ ≡ registerRecord i first last s v
           unfolding registerRecord
           entered h n e = rw (← test, t, keeps, lt-leb 512 (v .0) free, passes s (v .0) first last first′ last′ become false h, e) (is-stored s (v .0) first last first′ last′ become h (v .0 + 1))
 
         -- a record without registers, by what it was parsed as
         pub no-register : v .0 < 512 → RegistersSized first → RegistersSized last → (r : Record) → r ≡ recordOf s → r .classical ≡ None
-            → (n : ℕ) → n ≡ v .0 → registersOf (n + 1) first last ≡ registerRecord first last s v
+            → (n : ℕ) → n ≡ v .0 → registersOf (n + 1) first last ≡ registerRecord i first last s v
         no-register free z y r p q =
             let f = both-lent z y t in
             entered free first last

@@ -171,16 +171,23 @@ fn maps_fit(first: Registers, last: Registers, v: NodeIndex) -> bool
     false
 }
 
-// One record as node v on the register maps of a graph with v nodes: 11, 4, 5, 7. A refusal leaves them as they were.
-pub fn register_record(first: Registers, last: Registers, part: &[u8], v: NodeIndex) -> Registered
-    ensures { λ r. ⌜ r ≡ registerRecord first last (now (part .entry)) v ⌝ }
+// Record i as node v on the register maps of a graph with v nodes: 11, 4, 5, 7. A refusal leaves them as they were.
+pub fn register_record(
+    i: usize,
+    first: Registers,
+    last: Registers,
+    part: &[u8],
+    v: NodeIndex,
+) -> Registered
+    ensures { λ r. ⌜ r ≡ registerRecord i first last (now (part .entry)) v ⌝ }
 {
     if !maps_fit(first, last, v) {
         return maps_kept(v, first, last, Refusal::Unsound);
     }
     let parsed = file::parse_record(part);
-    let Parsed::Record(r) = parsed else {
-        return maps_kept(v, first, last, Refusal::BadRecord(0));
+    let r = match parsed {
+        Parsed::Record(r) => r,
+        Parsed::Refused(c) => return maps_kept(v, first, last, file::at_record(i, c)),
     };
     if 512 <= v.0 {
         return maps_kept(v, first, last, Refusal::TooManyNodes);
@@ -221,7 +228,7 @@ pub fn register_record(first: Registers, last: Registers, part: &[u8], v: NodeIn
         last.count,
     );
     if maps_pass(m) {
-        return maps_kept(v, first, last, Refusal::TooManyRegisters(0));
+        return maps_kept(v, first, last, Refusal::TooManyRegisters(i));
     }
     maps_held(
         file::to_index(v.0) + 1,

@@ -1,22 +1,23 @@
 -- A list of insertions: the accepted records in their order, their net, and the graph. Node numbers, places and what each takes are
 -- told by the record. Assumes nothing.
 use mathlib.Core.Path.{_≡_, refl, sym, _∙_, ap, subst}
-use mathlib.Core.Bool.{Bool, true, false, cond, not, _&&_, _||_, or-false}
+use mathlib.Core.Bool.{Bool, true, false, cond, _&&_, _||_, or-false}
 use mathlib.Core.Logic.{⊎-elim}
 use mathlib.Core.List.{List, [], _∷_, _++_, map, append-assoc, append-nil}
 use Prim.Native.Nat.{ℕ, _+_, _<_}
 use native.Mathlib.Omega.{arith}
 use native.Mathlib.Decide.{decLt, ℕ-discrete}
-use lib.Dec.{eqb, ltb, leb}
+use lib.Dec.{eqb, ltb}
 use lib.IntN.{ℤ, pos, negsuc}
 use lib.Signed.{ltZ}
 use lib.ListN.{length, getD, length-append, length-map, List·getD-append, List·getD-eq-default}
 use lib.Seq.{getD-append-add}
-use borrow.Author.Tests.{eq-eqb, ne-eqb, ltb-true, lt-ltb, le-ltb, leb-false, not-false as told-true}
+use borrow.Author.Tests.{eq-eqb, ne-eqb, ltb-true, lt-ltb, le-ltb, leb-false}
 use Rattle.file.specs.Lists.{anyOf, allOf, countFrom}
 use Rattle.file.specs.Records.{front, recordRule, qubitsBy, qubitsOf}
 use Rattle.file.specs.declared.Refusal.{Refusal}
-use Rattle.file.specs.declared.Refusal.the-variants.{BadRecord, TooManyNodes, TooManyEdges, TooManyRegisters}
+use Rattle.file.specs.Refusals.{atRecord}
+use Rattle.file.proofs.RecordLaws.{good-keeps}
 use Rattle.graph.specs.declared.CircuitDag.{CircuitDag}
 use Rattle.graph.specs.Dag.{absent, empty, noEnd, node, size}
 use Rattle.graph.specs.Soundness.{sound}
@@ -26,10 +27,11 @@ use Rattle.insertion.specs.declared.Answer.the-variants.{Node, Refused}
 use Rattle.insertion.specs.declared.Inserted.{Inserted}
 use Rattle.links.specs.Links.{LoadingRule, ruleOf}
 use Rattle.insertion.specs.Insertion.{grown}
-use Rattle.insertion.specs.Limits.{refused, edgesPass, registersPass, insertAs, insertBy}
+use Rattle.insertion.specs.Limits.{refused, insertBy}
 use Rattle.insertion.specs.Calls.{Call as Insertion, graphAfter, built as builtBy, allBy, finalBy}
 use Rattle.insertion.proofs.SafeEnds.{all-same}
 use Rattle.insertion.proofs.SafeEdges.{between}
+use Rattle.insertion.proofs.CaseLaws.{insert-cases}
 use Rattle.insertion.proofs.BuiltLaws.{Safe, safe-sound, safe-empty, safe-insert}
 use Rattle.walk.specs.Guarantee.{Accepted, acceptedFrom, accepted, Bytes}
 use Rattle.walk.proofs.LinkViews.{takeBy}
@@ -241,17 +243,9 @@ module _ (farAll : Bool) (g : CircuitDag) (l : List Accepted) (T : Built farAll 
 module _ (rule : LoadingRule) (g : CircuitDag) (s : List ℕ) where
   insert-told : sound g ≡ true → (P : Inserted → Type 0) → ((r : Refusal) → P (refused r g))
       → (recordRule s ≡ true → size g < 512 → P (record { answer = Node (node (size g)); graph = grown (ruleOf rule) g s })) → P (insertBy rule g s)
-  unfolding insertBy insertAs
-  insert-told h P p q = rw h (go (not (recordRule s)) (leb 512 (size g)) (edgesPass (ruleOf rule) g s) (registersPass g s) refl refl)
-    where
-      go : (a b c d : Bool) → not (recordRule s) ≡ a → leb 512 (size g) ≡ b
-          → P (cond a (refused (BadRecord 0) g) (cond b (refused TooManyNodes g) (cond c (refused (TooManyEdges 0) g) (cond d (refused (TooManyRegisters 0) g)
-          (record { answer = Node (node (size g)); graph = grown (ruleOf rule) g s })))))
-      go true b c d e f = p (BadRecord 0)
-      go false true c d e f = p TooManyNodes
-      go false false true d e f = p (TooManyEdges 0)
-      go false false false true e f = p (TooManyRegisters 0)
-      go false false false false e f = q (told-true (recordRule s) e) (leb-false 512 (size g) f)
+  unfolding insertBy
+  insert-told h P p q = rw h
+      (insert-cases (ruleOf rule) g s 0 P (λ r c. p (atRecord 0 r)) (λ t. q (good-keeps s (t .whole)) (leb-false 512 (size g) (t .free))))
 
 -- the accepted records of s ∷ l, by what the insertion of s gave
 abbrev acceptStep : ℕ → ℕ → List ℕ → List Insertion → Inserted → List Accepted

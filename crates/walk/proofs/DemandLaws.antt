@@ -1,16 +1,16 @@
 -- Demand 3, proved: the statement is in specs/Guarantee.antt. Assumes nothing.
 use mathlib.Core.Path.{_≡_, refl, sym, _∙_, ap, subst}
-use mathlib.Core.Bool.{Bool, true, false, cond, _&&_, not}
+use mathlib.Core.Bool.{Bool, true, false, cond, _&&_}
 use mathlib.Core.Logic.{⊎-elim}
 use mathlib.Core.List.{List, [], _∷_, map}
 use Prim.Native.Nat.{ℕ, zero, suc, _≤_, _<_}
 use native.Mathlib.Omega.{arith}
-use lib.Dec.{eqb, ltb, leb}
+use lib.Dec.{eqb, ltb}
 use lib.Signed.{ltZ}
 use lib.ListN.{length, getD, drop, List·getD-append}
 use borrow.Author.Tests.{eqb-true, eq-eqb, lt-ltb, ltb-true, le-ltb}
 use Rattle.file.specs.Lists.{anyOf, keep, member, onto}
-use Rattle.file.specs.declared.Refusal.the-variants.{ShortBuffer, BadRecord, TooManyNodes, TooManyEdges, TooManyRegisters}
+use Rattle.file.specs.declared.Refusal.the-variants.{ShortBuffer}
 use Rattle.graph.specs.declared.CircuitDag.{CircuitDag}
 use Rattle.graph.specs.Dag.{absent, size, hasEdge, node}
 use Rattle.graph.specs.Soundness.{sound}
@@ -18,13 +18,12 @@ use Rattle.file.proofs.BoolLaws.{bool-cases, clash-bool, not-true, bool-ext, an
 use Rattle.graph.proofs.ListLaws.{any-here, any-later, keep-any, member-keep, length-upTo, upTo-at}
 use Rattle.insertion.specs.Calls.{Call, built as builtBy, allBy, finalBy}
 use Rattle.insertion.proofs.BuiltLaws.{sound-built}
-use Rattle.file.specs.Records.{recordRule}
+use Rattle.insertion.proofs.CaseLaws.{insert-cases}
 use Rattle.graph.specs.declared.NodeIndex.{NodeIndex}
 use Rattle.links.specs.Links.{FarRule, LoadingRule, NearAll, ruleOf}
 use Rattle.insertion.specs.declared.Answer.the-variants.{Node}
 use Rattle.insertion.specs.declared.Inserted.{Inserted}
-use Rattle.insertion.specs.Insertion.{grown}
-use Rattle.insertion.specs.Limits.{refused, edgesPass, registersPass, insertAs}
+use Rattle.insertion.specs.Limits.{insertAs}
 use Rattle.walk.specs.declared.BlockCount.the-variants.{Blocks, Refused as NotWalked}
 use Rattle.walk.specs.Blocks.{Walked, blocks, numberFrom, blockNumbers, wholeWalk}
 use Rattle.walk.specs.Guarantee.{Accepted, accepted, takesQubits, operations, Each, Orders, different, stateAfter, blockOfStep}
@@ -92,16 +91,9 @@ module _ (g : CircuitDag) (s : sound g ≡ true) (buffer : List ℕ) where
 
 -- the number that an accepted record answers
 number-of : (rule : FarRule) (g : CircuitDag) (s : List ℕ) (v : NodeIndex) → insertAs rule 0 g s .answer ≡ Node v → size g ≡ v .0
-unfolding insertAs
-number-of rule g s v = by (not (recordRule s)) (leb 512 (size g)) (edgesPass rule g s) (registersPass g s)
-  where
-    by : (a b c d : Bool) → cond a (refused (BadRecord 0) g) (cond b (refused TooManyNodes g) (cond c (refused (TooManyEdges 0) g) (cond d (refused (TooManyRegisters 0) g)
-        (record { answer = Node (node (size g)); graph = grown rule g s })))) .answer ≡ Node v → size g ≡ v .0
-    by true b c d e = let z : _≡_ {A = ℕ} 0 1 = cc in absurd (omega arith)
-    by false true c d e = let z : _≡_ {A = ℕ} 0 1 = cc in absurd (omega arith)
-    by false false true d e = let z : _≡_ {A = ℕ} 0 1 = cc in absurd (omega arith)
-    by false false false true e = let z : _≡_ {A = ℕ} 0 1 = cc in absurd (omega arith)
-    by false false false false e = cc
+number-of rule g s v = insert-cases rule g s 0 (λ x. x .answer ≡ Node v → size g ≡ v .0)
+    (λ r c e. let z : _≡_ {A = ℕ} 0 1 = cc in absurd (omega arith))
+    (λ t e. cc)
 
 -- the guarantee for records inserted by one rule, whose net keeps the invariant
 module _ (rule : LoadingRule) (l : List (List ℕ)) (buffer : List ℕ) (bytes : Bytes l) (B : Base (netOf rule (accepted (allBy rule l))))

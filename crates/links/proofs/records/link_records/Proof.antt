@@ -40,8 +40,8 @@ parse-record-requires c κs = search needs
 enum-known-parsed : tie.Need-enum-known-parsed Inv-loop μ-loop
 enum-known-parsed c = c .match .keys1
 
-enum-told : tie.Need-enum-told Inv-loop μ-loop
-enum-told c = c .match .keys2
+enum-known-parsed-2 : tie.Need-enum-known-parsed-2 Inv-loop μ-loop
+enum-known-parsed-2 c = c .match .keys2
 
 record-refusal-requires : tie.Need-record-refusal-requires Inv-loop μ-loop
 record-refusal-requires c κs = search needs
@@ -50,7 +50,7 @@ links-stopped-requires : tie.Need-links-stopped-requires Inv-loop μ-loop
 links-stopped-requires c κs = search needs
 
 returns : tie.Need-returns Inv-loop μ-loop
-returns c = c .links-stopped .ensures ∙ not-taken _ _ _ _ _ _ _ _ _ _ _ _ _ (c .before .before .before .before .before .before .before .before .before .loop .inv .0) (c .before .before .before .before .before .before .before .before .loop-test .taken) _ (c .before .before .before .before .before .before .to-index .ensures) _ (read-refused _ _ _ _ (c .before .before .before .before .before .part-of .ensures .bytes) (c .before .before .before .before .parse-record .ensures) _ (c .before .before .enum-told .given .1) _ (c .before .record-refusal .ensures))
+returns c = c .links-stopped .ensures ∙ not-taken _ _ _ _ _ _ _ _ _ _ _ _ _ (c .before .before .before .before .before .before .before .before .before .before .loop .inv .0) (c .before .before .before .before .before .before .before .before .before .loop-test .taken) _ (c .before .before .before .before .before .before .before .to-index .ensures) _ (read-refused _ _ _ _ (c .before .before .before .before .before .before .part-of .ensures .bytes) (c .before .before .before .before .before .parse-record .ensures) _ (c .before .before .before .parsed2 .given .1) _ (c .before .record-refusal .ensures))
 
 links-stopped-requires-2 : tie.Need-links-stopped-requires-2 Inv-loop μ-loop
 links-stopped-requires-2 c κs = search needs
@@ -58,8 +58,8 @@ links-stopped-requires-2 c κs = search needs
 returns-2 : tie.Need-returns-2 Inv-loop μ-loop
 returns-2 c = c .links-stopped2 .ensures ∙ nodes-stop _ _ _ _ _ _ _ _ _ _ _ _ _ (c .before .before .before .before .before .before .before .before .before .before .loop .inv .0) (c .before .before .before .before .before .before .before .before .before .loop-test .taken) _ (c .before .before .before .before .before .before .before .to-index .ensures) _ (read-taken _ _ _ _ (c .before .before .before .before .before .before .part-of .ensures .bytes) (c .before .before .before .before .before .parse-record .ensures) _ (c .before .before .before .parsed .given .1)) (c .before .if1 .taken)
 
-cast-t25 : tie.Need-cast-t25 Inv-loop μ-loop
-cast-t25 c = omega (arith, c .if1 .left)
+cast-t27 : tie.Need-cast-t27 Inv-loop μ-loop
+cast-t27 c = omega (arith, c .if1 .left)
 
 join-record-requires : tie.Need-join-record-requires Inv-loop μ-loop
 join-record-requires c κs = let i = c .before .before .before .before .before .before .before .before .before .before .before .before .before .before .before .before .loop .inv in let m = i .0 in (c .before .before .before .before .before .before .before .if1 .left, i .1, m .first-fits, m .last-fits)
@@ -107,13 +107,13 @@ link-records-spec =
     part-of-requires
     parse-record-requires
     enum-known-parsed
-    enum-told
+    enum-known-parsed-2
     record-refusal-requires
     links-stopped-requires
     returns
     links-stopped-requires-2
     returns-2
-    cast-t25
+    cast-t27
     join-record-requires
     edges-pass-requires
     links-stopped-requires-3
