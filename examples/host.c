@@ -258,6 +258,33 @@ static void walk_case_2(void) {
     holds("next, short buffer", same(&x.walk, &start, sizeof start));
 }
 
+/* ---- from a file to its schedule in one call */
+
+static void schedules(void) {
+    answered("schedule", sawhekonu_schedule(case2_file, case2_length, buffer, 3), 0, 2);
+    wrote("schedule", LIST(0, 0, 1));
+    refused("schedule, short buffer", sawhekonu_schedule(case2_file, case2_length, buffer, 2), SAWHEKONU_SHORT_BUFFER);
+    refused("schedule, no buffer", sawhekonu_schedule(case2_file, case2_length, NULL, 0), SAWHEKONU_SHORT_BUFFER);
+    refused("schedule of a byte", sawhekonu_schedule(case2_file, 1, buffer, ROOM), SAWHEKONU_FILE_TOO_SHORT);
+    refused("schedule of no file", sawhekonu_schedule(NULL, 0, buffer, ROOM), SAWHEKONU_FILE_TOO_SHORT);
+    answered("schedule of a cut file", sawhekonu_schedule(case2_file, case2_length - 1, buffer, ROOM), SAWHEKONU_BAD_PAIR, 2);
+    wrote("schedule of a cut file", 0, none);
+    /* B{5} label 9, Bit name 1 length 2, F{5,6}: the front pulse fires first, the definition in no block */
+    uint8_t back[14], one[17], front[14], file[128];
+    gate(back, 0, 1 << 5, 9);
+    bit(one, 1, 2);
+    gate(front, FRONT, 3 << 5, 4);
+    const uint8_t *records[] = {back, one, front};
+    const size_t lengths[] = {14, 17, 14};
+    size_t length = file_of(file, 3, records, lengths);
+    answered("schedule at both ends", sawhekonu_schedule(file, length, buffer, ROOM), 0, 2);
+    wrote("schedule at both ends", LIST(1, SAWHEKONU_NONE, 0));
+    back[2] = 3;
+    file_of(file, 3, records, lengths);
+    answered("schedule of a bad record", sawhekonu_schedule(file, length, buffer, ROOM), SAWHEKONU_BAD_RECORD, 0);
+    wrote("schedule of a bad record", 0, none);
+}
+
 /* ---- graphs whose parts all differ */
 
 /* B{0} B{0} B{0}: what reaches a node is more than what precedes it */
@@ -511,6 +538,7 @@ static size_t sink;
 
 static void call_nothing(void) {}
 static void call_locate(void) { sink += sawhekonu_locate_record(deep_file, sizeof deep_file, 1).offset; }
+static void call_schedule(void) { sink += sawhekonu_schedule(deep_file, sizeof deep_file, buffer, ROOM).value; }
 static void call_new(void) { made.graph = sawhekonu_new(); }
 static void call_load(void) { made = sawhekonu_load(deep_file, sizeof deep_file); }
 static void call_insert(void) { made = sawhekonu_insert(deep, deep_file + sizeof deep_file - 14, 14); }
@@ -560,6 +588,7 @@ static void stacks(void) {
         void (*call)(void);
     } calls[] = {
         {"locate_record", call_locate},
+        {"schedule", call_schedule},
         {"new", call_new},
         {"load", call_load},
         {"insert", call_insert},
@@ -606,6 +635,7 @@ int main(int count, char **words) {
     clear();
     case_2();
     walk_case_2();
+    schedules();
     three_in_a_row();
     two_at_the_front();
     registers();

@@ -145,6 +145,18 @@ typedef struct sawhekonu_node_answer {
  * record i, with offset and length 0. Value: 0. */
 sawhekonu_place_answer sawhekonu_locate_record(const uint8_t *file, size_t file_length, size_t i);
 
+/* ---- from a file to its schedule in one call */
+
+/* The block number of each of the file's records, by its number in the file, SAWHEKONU_NONE for one that takes no qubit. Refused as sawhekonu_load is,
+ * then 10. Value: how many blocks there are; one entry a record is written, so that SAWHEKONU_RECORDS entries always suffice. It is the load and then
+ * the whole walk of its graph.
+ *
+ * The promise, where no pulse has an empty qubit set and, with pulses at both ends, at most one takes all qubits. A pulse is a record of qubit form All
+ * or Set; two clash if they share a qubit or one takes all. Each pulse has a number below the value. Of two clashing pulses the earlier in the circuit
+ * has the smaller number. Every other numbering from 0 that does so gives no pulse a smaller number, and uses no fewer different numbers. The value is
+ * how many different ones were written. */
+sawhekonu_answer sawhekonu_schedule(const uint8_t *file, size_t file_length, uint16_t *buffer, size_t buffer_length);
+
 /* ---- making a graph */
 
 /* The empty graph. */
