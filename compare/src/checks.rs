@@ -126,6 +126,8 @@ pub fn circuit(records: &[Record], seed: u64, counts: &mut Counts) -> Result<(),
                 counts.add("loads refused");
             }
         }
+        scheduled("schedule", &file, first_refusal.map_or(Ok(&numbers_of(&theirs, reading.size())), Err), seed)?;
+        counts.add("files scheduled or refused");
         conversion(&file, records, counts)?;
     }
     if one_by_one && first_refusal.is_some() {
@@ -152,6 +154,34 @@ fn graph_checks(
     Ok(())
 }
 
+/// Each node's block number in the original's walk, and how many blocks there are.
+fn numbers_of(theirs: &original::CircuitDag, n: usize) -> (Vec<u16>, usize) {
+    let mut numbers = vec![65535u16; n];
+    let mut blocks = 0;
+    // The original repeats an empty first block for ever.
+    for block in theirs.parallel_blocks().take_while(|b| !b.is_empty()) {
+        block.iter().for_each(|&v| numbers[v] = blocks as u16);
+        blocks += 1;
+    }
+    (numbers, blocks)
+}
+
+/// A file scheduled in one call: the block numbers, or the load's refusal, then 10; a refusal leaves the buffer.
+fn scheduled(what: &str, file: &[u8], expected: Result<&(Vec<u16>, usize), Refusal>, seed: u64) -> Result<(), String> {
+    let mut random = Random::new(seed ^ 0x5C4E);
+    let mut buffer = [OLD; 600];
+    let (length, written, answer) = match expected {
+        Err(r) => (random.below(600), &[][..], refused(r)),
+        Ok((numbers, count)) => match some_length(&mut random, numbers.len()) {
+            length if length < numbers.len() => (length, &[][..], refused((10, None))),
+            length => (length, &numbers[..], accepted(*count)),
+        },
+    };
+    same(what, sawhekonu::schedule(file, &mut buffer[..length]), answer)?;
+    same(what, &buffer[..written.len()], written)?;
+    same(what, buffer[written.len()..].iter().all(|&x| x == OLD), true)
+}
+
 /// All blocks, step by step, and the whole walk.
 fn walk(
     ours: &CircuitDag,
@@ -162,14 +192,7 @@ fn walk(
 ) -> Result<(), String> {
     let n = reading.size();
     let (numbers, count) = reading.whole_walk();
-    let mut expected = vec![65535u16; n];
-    let mut blocks = 0;
-    // The original repeats an empty first block for ever.
-    for mut block in theirs.parallel_blocks().take_while(|b| !b.is_empty()) {
-        block.sort();
-        block.iter().for_each(|&v| expected[v] = blocks as u16);
-        blocks += 1;
-    }
+    let (expected, blocks) = numbers_of(theirs, n);
     same("the original's blocks and the reading's", (&expected, blocks), (&numbers, count))?;
     let length = some_length(random, n);
     let mut buffer = [OLD; 600];
@@ -472,7 +495,7 @@ fn located(file: &[u8], i: usize) -> Result<(), String> {
     same("the record located", part.unwrap_or_default(), &file[found.offset..found.offset + found.length])
 }
 
-/// A file with damage, in loading and in conversion, against the reading.
+/// A file with damage, in one call, in loading and in conversion, against the reading.
 pub fn damaged(records: &[Record], seed: u64, counts: &mut Counts) -> Result<(), String> {
     let mut random = Random::new(seed ^ 0xDA3A);
     let mut parts = parts_of(records);
@@ -496,6 +519,8 @@ pub fn damaged(records: &[Record], seed: u64, counts: &mut Counts) -> Result<(),
     });
     let at = |e: String| format!("{e}; file {file:?}");
     located(&file, random.below(records.len() + 2)).map_err(at)?;
+    let walked = expected.as_ref().map(Graph::whole_walk).map_err(|&r| r);
+    scheduled("schedule of a damaged file", &file, walked.as_ref().map_err(|&r| r), seed).map_err(at)?;
     same_outcome("load of a damaged file", &sawhekonu::load(&file), expected).map_err(at)?;
     same_outcome("conversion of a damaged file", &sawhekonu::from_circuit(&file), Graph::from_circuit(&file)).map_err(at)
 }

@@ -119,6 +119,7 @@ mod library {
 
     #[allow(improper_ctypes)]
     extern "C" {
+        pub fn sawhekonu_schedule(file: *const u8, file_length: usize, buffer: *mut u16, length: usize) -> Answer;
         pub fn sawhekonu_new() -> CircuitDag;
         pub fn sawhekonu_load(file: *const u8, length: usize) -> GraphAnswer;
         pub fn sawhekonu_insert(dag: CircuitDag, part: *const u8, length: usize) -> GraphAnswer;
@@ -266,6 +267,10 @@ impl CircuitDag {
     pub fn chain(&self, buffer: &mut [u16]) -> Answer {
         unsafe { library::sawhekonu_chain(*self, buffer.as_mut_ptr(), buffer.len()) }
     }
+}
+
+pub fn schedule(file: &[u8], buffer: &mut [u16]) -> Answer {
+    unsafe { library::sawhekonu_schedule(file.as_ptr(), file.len(), buffer.as_mut_ptr(), buffer.len()) }
 }
 
 pub fn load(file: &[u8]) -> GraphAnswer {
