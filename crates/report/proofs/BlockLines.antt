@@ -1,6 +1,7 @@
--- The lines by the walk's numbers are the lines of the blocks; a loaded graph is sound. Assumes nothing.
+-- The lines by a schedule's numbers are the lines of the blocks. Assumes nothing.
 use mathlib.Core.Path.{_≡_, refl, sym, _∙_, ap}
 use mathlib.Core.Bool.{Bool, true, false, cond, _&&_}
+use mathlib.Core.Logic.{⊎-elim}
 use mathlib.Core.List.{List, [], _∷_, _++_}
 use Prim.Native.Nat.{ℕ, suc, _+_, _≤_, _<_}
 use native.Mathlib.Omega.{arith}
@@ -11,6 +12,7 @@ use borrow.Author.Tests.{lt-ltb}
 use Rattle.file.specs.Lists.{keep, upTo, member, members, anyOf, isEmpty, onto}
 use Rattle.file.specs.Pairs.{countOf}
 use Rattle.file.specs.declared.Refusal.{Refusal}
+use Rattle.file.specs.declared.Refusal.the-variants.{ShortBuffer}
 use Rattle.graph.specs.declared.CircuitDag.{CircuitDag}
 use Rattle.graph.specs.Dag.{absent, size, hasEdge}
 use Rattle.graph.specs.Soundness.{sound}
@@ -20,13 +22,8 @@ use Rattle.graph.proofs.ListLaws.{member-marked, member-upTo, member-keep}
 use Rattle.queries.proofs.ReachLaws.{keep-same}
 use Rattle.file.specs.declared.Outcome.{Outcome}
 use Rattle.file.specs.declared.Outcome.the-variants.{Done, Refused as NotLoaded}
-use Rattle.links.specs.Links.{NearAll}
 use Rattle.insertion.specs.declared.Loaded.{Loaded}
 use Rattle.insertion.specs.Load.{load}
-use Rattle.insertion.specs.Calls.{allBy}
-use Rattle.insertion.specs.Built.{recordsIn}
-use Rattle.insertion.proofs.BuiltLaws.{sound-built}
-use Rattle.insertion.proofs.BuiltLoads.{load-inserts}
 use Rattle.walk.specs.declared.ParallelBlocks.{ParallelBlocks}
 use Rattle.walk.specs.declared.BlockCount.{BlockCount}
 use Rattle.walk.specs.declared.BlockCount.the-variants.{Blocks, Refused as NotWalked}
@@ -37,7 +34,9 @@ use Rattle.walk.proofs.BlockSteps.{sound-within}
 use Rattle.walk.proofs.BlockLaws.{nth-block}
 use Rattle.walk.proofs.StepLaws.{marked-keep}
 use Rattle.walk.proofs.IterationLaws.{next-iterated}
-use Rattle.report.specs.Lines.{inBlock, linesBy}
+use Rattle.schedule.specs.Schedule.{schedule, NotScheduled}
+use Rattle.schedule.proofs.ScheduleLaws.{walks, refuses, size-loaded, sound-loaded}
+use Rattle.report.specs.Lines.{inBlock, linesBy, numbersText}
 use Rattle.report.specs.Text.{decimal, lineText, linesText, countText, blocksText, refusedText, loadedText, fileText, textOf}
 use Rattle.report.proofs.TextLaws.{digits-few, stored, then-text, stored-as}
 
@@ -88,68 +87,35 @@ module _ (g : CircuitDag) (s : sound g ≡ true) where
         (λ i. lineText t (here i) ++ rest i)
 
     -- the lines by the numbers are those of the blocks
-    pub blocks-lines : linesBy numbers n (length (blocks g)) 0 ≡ linesText 0 (blocks g)
+    blocks-lines : linesBy numbers n (length (blocks g)) 0 ≡ linesText 0 (blocks g)
     blocks-lines = lines-same (blocks g) 0 (λ i h. let z : i ≡ 0 + i = omega arith in block-numbered i h ∙ ap (inBlock numbers n) z)
 
-    pub walk-count : (r : BlockCount) (written : List ℕ) → record { answer = r; buffer = written } ≡ wholeWalk g buffer → r ≡ Blocks (length (blocks g))
+    walk-count : (r : BlockCount) (written : List ℕ) → record { answer = r; buffer = written } ≡ wholeWalk g buffer → r ≡ Blocks (length (blocks g))
     walk-count r written e = ap (λ (x : Walked). x .answer) e ∙ I .count
 
-    pub walk-few : length (blocks g) ≤ n
+    walk-few : length (blocks g) ≤ n
     walk-few = I .ends
 
-abbrev blocks-of : BlockCount → ℕ
-blocks-of (Blocks k) = k
-blocks-of (NotWalked r) = 0
-
-pub same-count : (j k : ℕ) → Blocks j ≡ Blocks k → j ≡ k
-same-count j k e = ap blocks-of e
-
-pub loaded-sound : (s : List ℕ) → load s .answer ≡ Done → sound (load s .graph) ≡ true
-loaded-sound s h = let l = load-inserts NearAll s in ap sound (l .inserts (l .sound h) .done h) ∙ sound-built (allBy NearAll (recordsIn s (upTo (countOf s)))) .sound
-
 -- a text in the array that starts as zeros
-pub text-onto : (t : List ℕ) → length t ≤ 5120 → sets (replicate 5120 0) 0 t ≡ onto t (replicate 5120 0)
+text-onto : (t : List ℕ) → length t ≤ 5120 → sets (replicate 5120 0) 0 t ≡ onto t (replicate 5120 0)
 text-onto t h =
     let z : 0 + length t ≡ length t = omega arith in
     sets-eq t (replicate 5120 0) 0 (omega (arith, h, length-replicate {A = ℕ} 5120 0)) ∙ ap (λ (k : ℕ). t ++ drop k (replicate 5120 0)) z
 
 -- the count, then the lines
-pub blocks-text : (g : CircuitDag) (s : sound g ≡ true) (buffer : List ℕ) (room : size g ≤ length buffer) (count at p : ℕ) (old mid now written : List ℕ)
-    → count ≡ length (blocks g) → written ≡ wholeWalk g buffer .buffer → at ≡ length (countText count) → mid ≡ sets old 0 (countText count)
-    → p ≡ at + length (linesBy written (size g) count 0) → now ≡ sets mid at (linesBy written (size g) count 0)
-    → (p ≡ length (blocksText g)) × (now ≡ sets old 0 (blocksText g))
-blocks-text g s buffer room count at p old mid now written c w a m e f =
+pub numbers-text : (numbers : List ℕ) (n count at p : ℕ) (old mid now : List ℕ) → at ≡ length (countText count) → mid ≡ sets old 0 (countText count)
+    → p ≡ at + length (linesBy numbers n count 0) → now ≡ sets mid at (linesBy numbers n count 0)
+    → (p ≡ length (numbersText numbers n count)) × (now ≡ sets old 0 (numbersText numbers n count))
+numbers-text numbers n count at p old mid now a m e f =
     let y : at ≡ 0 + length (countText count) = omega (arith, a) in
-    let same = (λ i. countText (c i) ++ linesBy (w i) (size g) (c i) 0) ∙ ap (λ (l : List ℕ). countText (length (blocks g)) ++ l) (blocks-lines g s buffer room) in
-    let r = stored-as (then-text (stored {old = old} {at = 0} {p = at} {now = mid} (countText count) y m) (linesBy written (size g) count 0) p now e f) (blocksText g) same in
-    let z : 0 + length (blocksText g) ≡ length (blocksText g) = omega arith in
+    let first = stored {old = old} {at = 0} {p = at} {now = mid} (countText count) y m in
+    let r = stored-as (then-text first (linesBy numbers n count 0) p now e f) (numbersText numbers n count) refl in
+    let z : 0 + length (numbersText numbers n count) ≡ length (numbersText numbers n count) = omega arith in
     (r .0 ∙ z, r .1)
 
 pub count-short : (n : ℕ) → length (countText n) ≤ 28
 unfolding countText
 count-short n = omega (arith, digits-few 20 n, length-append (decimal n) (10 ∷ []))
-
-abbrev counts : BlockCount → ℕ
-counts (Blocks k) = 1
-counts (NotWalked r) = 0
-
-clash-count : (x : Refusal) (k : ℕ) → NotWalked x ≡ Blocks k → ⊥
-clash-count x k h = let z = ap counts h in omega arith
-
--- on a sound graph and an array of 512 entries the walk is not refused, and its count is that of the blocks
-module _ (g : CircuitDag) (s : sound g ≡ true) (buffer : List ℕ) (b : buffer ≡ replicate 512 65535) where
-  pub has-room : size g ≤ length buffer
-  has-room = omega (arith, sound-within g s .cap, ap length b, length-replicate {A = ℕ} 512 65535)
-
-  module _ (r : BlockCount) (written : List ℕ) (e : record { answer = r; buffer = written } ≡ wholeWalk g buffer) where
-    pub not-refused : (x : Refusal) → r ≡ NotWalked x → ⊥
-    not-refused x f = clash-count x (length (blocks g)) (sym f ∙ walk-count g s buffer has-room r written e)
-
-    pub counted : (k : ℕ) → r ≡ Blocks k → k ≡ length (blocks g)
-    counted k f = same-count k (length (blocks g)) (sym f ∙ walk-count g s buffer has-room r written e)
-
-    pub counted-few : (k : ℕ) → r ≡ Blocks k → k ≤ size g
-    counted-few k f = omega (arith, counted k f, walk-few g s buffer has-room)
 
 -- ---- the whole text
 
@@ -159,18 +125,65 @@ loaded-done x e = ap (λ (a : Outcome). loadedText (record { answer = a; graph =
 loaded-refused : (x : Loaded) (r : Refusal) → x .answer ≡ NotLoaded r → loadedText x ≡ refusedText r
 loaded-refused x r e = ap (λ (a : Outcome). loadedText (record { answer = a; graph = x .graph })) e
 
-in-array : (t u : List ℕ) (n : ℕ) (zeros bytes : List ℕ) → t ≡ u → zeros ≡ replicate 5120 0 → n ≡ length t → n ≤ 5120 → bytes ≡ sets zeros 0 t
+-- a file whose schedule, in an array of 512 entries, has the answer r and the numbers `written`
+module _ (s : List ℕ) (bytes : (i : ℕ) → getD s i 0 < 256) (buffer : List ℕ) (b : buffer ≡ replicate 512 65535)
+    (r : BlockCount) (written : List ℕ) (w : record { answer = r; buffer = written } ≡ schedule s buffer) where
+  long : length buffer ≡ 512
+  long = ap length b ∙ length-replicate {A = ℕ} 512 65535
+
+  module _ (k : ℕ) (e : r ≡ Blocks k) where
+    -- it loads
+    done : load s .answer ≡ Done
+    done = go (load s .answer) refl
+      where
+        go : (a : Outcome) → load s .answer ≡ a → a ≡ Done
+        go Done d = refl
+        go (NotLoaded c) d =
+            let t : r ≡ NotWalked c = ap (λ (x : Walked). x .answer) (w ∙ sym (refuses s buffer (load s) refl c d)) in
+            let z : _≡_ {A = ℕ} 0 1 = cc in
+            absurd (omega arith)
+
+    g-sound : sound (load s .graph) ≡ true
+    g-sound = sound-loaded s bytes done
+
+    nodes : size (load s .graph) ≡ countOf s
+    nodes = size-loaded s bytes done
+
+    pub few-records : countOf s ≤ 512
+    few-records = omega (arith, nodes, sound-within (load s .graph) g-sound .cap)
+
+    room : size (load s .graph) ≤ length buffer
+    room = omega (arith, nodes, few-records, long)
+
+    walked : record { answer = r; buffer = written } ≡ wholeWalk (load s .graph) buffer
+    walked = w ∙ sym (walks s buffer (load s) refl done)
+
+    count-is : k ≡ length (blocks (load s .graph))
+    count-is = let a = walk-count (load s .graph) g-sound buffer room r written walked in cc
+
+    pub few-blocks : k ≤ countOf s
+    few-blocks = omega (arith, count-is, walk-few (load s .graph) g-sound buffer room, nodes)
+
+    -- the text by its numbers is the file's
+    pub scheduled-text : (n : ℕ) → n ≡ countOf s → numbersText written n k ≡ fileText s
+    scheduled-text n e = (λ i. countText (count-is i) ++ linesBy (ap (λ (x : Walked). x .buffer) walked i) ((e ∙ sym nodes) i) (count-is i) 0)
+        ∙ ap (λ (l : List ℕ). countText (length (blocks (load s .graph))) ++ l) (blocks-lines (load s .graph) g-sound buffer room)
+        ∙ sym (loaded-done (load s) done)
+
+  pub refusal-text : (c : Refusal) → NotScheduled s buffer c written → refusedText c ≡ fileText s
+  refusal-text c n = ⊎-elim
+      (λ (d : load s .answer ≡ NotLoaded c). sym (loaded-refused (load s) c d))
+      (λ (d : (load s .answer ≡ Done) × (c ≡ ShortBuffer) × (length buffer < countOf s)).
+      let f = size-loaded s bytes (d .0) in
+      absurd (omega (arith, f, long, d .2, sound-within (load s .graph) (sound-loaded s bytes (d .0)) .cap)))
+      (n .cause)
+
+-- a text that stands in the array that starts as zeros
+pub in-array : (t u : List ℕ) (n : ℕ) (zeros bytes : List ℕ) → t ≡ u → zeros ≡ replicate 5120 0 → n ≡ length t → n ≤ 5120 → bytes ≡ sets zeros 0 t
     → record { length = n; bytes = bytes } ≡ textOf u
 in-array t u n zeros bytes e z l h b =
     let whole = b ∙ ap (λ (y : List ℕ). sets y 0 t) z ∙ text-onto t (omega (arith, l, h)) in
     (λ i. record { length = l i; bytes = whole i }) ∙ ap textOf e
-
-module _ (s : List ℕ) (x : Loaded) (e : x ≡ load s) (n : ℕ) (zeros bytes : List ℕ) (z : zeros ≡ replicate 5120 0) (h : n ≤ 5120) where
-  pub text-done : x .answer ≡ Done → n ≡ length (blocksText (x .graph)) → bytes ≡ sets zeros 0 (blocksText (x .graph)) → record { length = n; bytes = bytes } ≡ textOf (fileText s)
-  text-done d l b = in-array (blocksText (x .graph)) (fileText s) n zeros bytes (sym (loaded-done x d) ∙ ap loadedText e) z l h b
-
-  pub text-refused : (r : Refusal) → x .answer ≡ NotLoaded r → n ≡ length (refusedText r) → bytes ≡ sets zeros 0 (refusedText r) → record { length = n; bytes = bytes } ≡ textOf (fileText s)
-  text-refused r d l b = in-array (refusedText r) (fileText s) n zeros bytes (sym (loaded-refused x r d) ∙ ap loadedText e) z l h b
 
 pub text-within : (n : ℕ) (zeros bytes : List ℕ) → zeros ≡ replicate 5120 0 → n ≤ 5120 → length bytes ≡ length zeros → n ≤ length bytes
 text-within n zeros bytes z h b = omega (arith, h, b, ap length z, length-replicate {A = ℕ} 5120 0)

@@ -1,19 +1,15 @@
 // The text is written from a place on, and each function returns the place behind what it wrote.
 ghost use mathlib.Core.Path.{_≡_};
-ghost use mathlib.Core.Bool.{true};
 ghost use mathlib.Core.List.{[]};
 ghost use Prim.Native.Nat.{_+_, _*_, _-_, _≤_, _<_};
 ghost use lib.ListN.{length, replicate};
 ghost use lib.Seq.{sets};
 ghost use Rattle.file.specs.Lists.{consIf};
-ghost use Rattle.graph.specs.Soundness.{sound};
-ghost use Rattle.report.specs.Lines.{inBlock, linesBy};
-ghost use Rattle.report.specs.Text.{digits, nodesText, lineText, countText, blocksText, atText, refusedText, fileText, textOf};
+ghost use Rattle.report.specs.Lines.{inBlock, linesBy, numbersText};
+ghost use Rattle.report.specs.Text.{digits, nodesText, lineText, countText, atText, refusedText, fileText, textOf};
 use crate::Text;
-use file::Outcome;
 use file::Refusal;
 use file::RefusalValue;
-use graph::CircuitDag;
 use graph::NodeIndex;
 use walk::BlockCount;
 
@@ -149,23 +145,18 @@ fn no_numbers() -> [u16; 512]
     [65535; 512]
 }
 
-// The blocks of a sound graph.
-fn write_blocks(dag: CircuitDag, out: &mut [u8]) -> usize
-    requires { ⌜ sound dag ≡ true ⌝ }
+// The blocks by the numbers of n records.
+fn write_blocks(numbers: &[u16], n: usize, count: usize, out: &mut [u8]) -> usize
+    requires { ⌜ n ≤ length (now numbers) ⌝ }
+    requires { ⌜ n ≤ 512 ⌝ }
+    requires { ⌜ count ≤ n ⌝ }
     requires { ⌜ length (now out) ≡ 5120 ⌝ }
-    ensures { λ r. ⌜ r ≡ length (blocksText dag) ⌝ }
+    ensures { λ r. ⌜ r ≡ length (numbersText (now (numbers .entry)) n count) ⌝ }
     ensures { λ r. ⌜ r ≤ 5120 ⌝ }
-    ensures { λ _. ⌜ now (out .exit) ≡ sets (now (out .entry)) 0 (blocksText dag) ⌝ }
+    ensures { λ _. ⌜ now (out .exit) ≡ sets (now (out .entry)) 0 (numbersText (now (numbers .entry)) n count) ⌝ }
 {
-    let mut numbers = no_numbers();
-    let counted = walk::whole_walk(dag, &mut numbers);
-    match counted {
-        BlockCount::Blocks(count) => {
-            let at = write_count(count, out);
-            write_lines(&numbers, dag.nodes.count, count, out, at)
-        }
-        BlockCount::Refused(r) => 0,
-    }
+    let at = write_count(count, out);
+    write_lines(numbers, n, count, out, at)
 }
 
 // "with ` at I` where the table has a record or pair"
@@ -210,12 +201,13 @@ pub fn blocks_text(file: &[u8]) -> Text
     ensures { λ r. ⌜ r ≡ textOf (fileText (now (file .entry))) ⌝ }
     ensures { λ r. ⌜ r .length ≤ length (r .bytes) ⌝ }
 {
-    let loaded = insertion::load(file);
+    let mut numbers = no_numbers();
+    let counted = schedule::schedule(file, &mut numbers);
+    let n = file::record_count(file);
     let mut bytes = blank();
-    let answer = loaded.answer;
-    let length = match answer {
-        Outcome::Done => write_blocks(loaded.graph, &mut bytes),
-        Outcome::Refused(r) => write_refusal(r, &mut bytes),
+    let length = match counted {
+        BlockCount::Blocks(count) => write_blocks(&numbers, n, count, &mut bytes),
+        BlockCount::Refused(r) => write_refusal(r, &mut bytes),
     };
     Text { length, bytes }
 }
