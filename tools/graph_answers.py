@@ -186,12 +186,17 @@ def definition(length):
     return circuit_file([record(kind=1, register=4, tail=bytes([1]) + length.to_bytes(2, "little"))])
 
 
+def one_edge_more():
+    """33 layers of 8 have 2,048 edges; a gate behind them would have one more."""
+    layers = gates(264, layers=True)
+    return circuit_file([part(layers, i) for i in range(264)] + [record(form=2, mask=1)])
+
+
 def runs():
     case2 = circuit_file(parse("B{0} B{1} B{0,1}"))
     bench = ["B All", "B All B{5}", "B{0} B All B All F{3} B{3}", "B{} B All", "F{0} F{0}",
              "Bit name 1 length 2; Bit name 2 length 1; B None/All name 2; B None/Set (1,0)"]
-    layers = gates(264, layers=True)
-    more = circuit_file([part(layers, i) for i in range(264)] + [record(form=2, mask=1)])
+    layers, more = gates(264, layers=True), one_edge_more()
     return ([b"", b"\0", bytes(2), bytes(3), case2] + [circuit_file(parse(c)) for c in bench]                 # the empty file, cases 1 to 7 and 10
             + [case2[:k] for k in (13, 14, 42, 55)] + [case2 + b"\0", b"\x01\x02", bytes([0, 2])]            # torn files
             + [case2[:29] + b"\x06" + case2[30:], circuit_file([record(), b"", record()])]                   # a refused record
@@ -216,11 +221,13 @@ def limits():
 
 
 def query_files():
-    """Circuits of several blocks at both ends, with definitions, a kind 5, no operation, no record, and a refused one."""
+    """Circuits of several blocks at both ends, with definitions, a kind 5, no operation, no record; then files refused 1, 1, 2, 3, 3, 4, 6, 7."""
     texts = ["B{0} B{1} B{0,1}", "B{0} B All B All F{3} B{3}", "B All F{0} F{1} B{0,1} B{2} F{2}", "F{0} F{0} F{0}", "",
              "Bit name 1 length 2; B{0} kind 5; F Float name 2 length 1; B{1}; F{0} label 7; B None", "B None/All name 2; B None", "B{} B All",
              "B{0,1} B{0} B{1} B{2,3} B{3} B{1,3} B{0,2} F{0,3} F{1}"]
-    return [circuit_file(parse(t)) for t in texts] + [b"\0"]
+    files = [circuit_file(parse(t)) for t in texts]
+    return files + [b"\0", files[0][:13], b"\x01\x02", files[0][:55], files[0][:6] + b"\x1d" + files[0][7:], files[0][:30] + b"\3" + files[0][31:],
+                    one_edge_more(), definition(257)]
 
 
 def asked(title, size, buffer, tests, answer):
@@ -245,12 +252,18 @@ def asked_of_node(g, sound, v, size):
     asked("new_front_layer without it", size, None, tests + [(9, v != 700)], lambda: [])
 
 
-def asked_of_graph(g, sound, size):
-    tests, found = [(11, not sound)], g.blocks()
+def numbers_of(g):
+    """Each node's block number, and how many blocks there are."""
+    found = g.blocks()
     numbers = {v: k for k, b in enumerate(found) for v in b}
+    return [numbers.get(v, 65535) for v in range(len(g.places))], len(found)
+
+
+def asked_of_graph(g, sound, size):
+    tests, (numbers, count) = [(11, not sound)], numbers_of(g)
     asked("to_circuit", size, None, tests, g.circuit)
     asked("chain", size, None, tests, g.chain)
-    asked("whole_walk", size, len(found), tests, lambda: [numbers.get(v, 65535) for v in range(len(g.places))])
+    asked("whole_walk", size, count, tests, lambda: numbers)
     asked("commuting_operations", size, None, tests, lambda: g.commuting)
     asked("first_parallel_block", size, None, tests, lambda: sorted(g.block[1]))
     asked("last_parallel_block", size, None, tests, lambda: sorted(g.block[0]))
@@ -279,14 +292,28 @@ def asked_to_step(g, sound, state, size):
     return after
 
 
+def asked_to_schedule(s, size):
+    """A line for a file scheduled in one call: the load's refusal, else the whole walk's answer."""
+    try:
+        numbers, count = numbers_of(load(s))
+        asked("schedule", size, count, [], lambda: numbers)
+    except Refused as x:
+        print(f"schedule {x} |" + " 9999" * min(size, 9))
+
+
 def queries():
     for s in query_files():
         print(f"file of {len(s)} bytes")
+        for size in (0, 1, 2, 512):
+            asked_to_schedule(s, size)
         try:
             g = load(s)
         except Refused as x:
             print(f"load {x}")
-            g = Graph()
+            for v in (0, 2, 0, 65535):
+                asked_of_node(Graph(), True, v, 512)
+            asked_of_graph(Graph(), True, 512)
+            continue
         for sound in (True, False):
             if not sound:
                 print("not sound")

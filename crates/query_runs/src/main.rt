@@ -1,7 +1,7 @@
-// Queries, accessors, steps, walks, chains and conversions on several circuits, each with buffers that are too short, one
-// too short and long, on nodes that are there and absent, and on a graph that is not sound. On standard input each
-// circuit file stands behind its length in two bytes, little-endian. Beside each answer stands the start of the lent
-// buffer, which held 9999. tools/graph_answers.py computes the same from document 01.
+// Schedules, queries, accessors, steps, walks, chains and conversions on several circuits, each with buffers that are too
+// short, one too short and long, on nodes that are there and absent, and on a graph that is not sound; and on files that are
+// refused for each cause. On standard input each circuit file stands behind its length in two bytes, little-endian. Beside
+// each answer stands the start of the lent buffer, which held 9999. tools/graph_answers.py computes the same from document 01.
 use accessors::Got;
 use accessors::Operation;
 use file::Outcome;
@@ -59,6 +59,15 @@ fn print_query(title: &[u8], answer: Query, buffer: &[u16]) {
     match answer {
         Query::Entries(k) => print_number(k),
         Query::Refused(r) => print_refusal(r),
+    }
+    print_buffer(buffer);
+}
+
+fn print_count(title: &[u8], answer: BlockCount, buffer: &[u16]) {
+    print(title);
+    match answer {
+        BlockCount::Blocks(k) => print_number(k),
+        BlockCount::Refused(r) => print_refusal(r),
     }
     print_buffer(buffer);
 }
@@ -131,12 +140,7 @@ fn probe_graph(g: CircuitDag, buffer: &mut [u16]) {
     print_query(b"chain", y, &*buffer);
     fill(&mut *buffer);
     let count = walk::whole_walk(g, &mut *buffer);
-    print(b"whole_walk");
-    match count {
-        BlockCount::Blocks(k) => print_number(k),
-        BlockCount::Refused(r) => print_refusal(r),
-    }
-    print_buffer(&*buffer);
+    print_count(b"whole_walk", count, &*buffer);
 }
 
 // The lists that a graph holds.
@@ -318,24 +322,53 @@ fn probe(g: CircuitDag, v: usize) {
     probe_entries(g, v);
 }
 
-// A circuit file: its graph, then the same with one back insertion too many, which is not sound.
-fn probe_file(bytes: &[u8]) {
-    print(b"file of");
-    print_number(bytes.len());
-    print(b" bytes\n");
+// A circuit file scheduled in one call.
+fn probe_schedule(bytes: &[u8], buffer: &mut [u16]) {
+    fill(&mut *buffer);
+    let count = schedule::schedule(bytes, &mut *buffer);
+    print_count(b"schedule", count, &*buffer);
+}
+
+// The same with no buffer, buffers of one and two entries, and a long one.
+fn probe_schedules(bytes: &[u8]) {
+    let mut none = [0u16; 0];
+    let mut one = [0u16; 1];
+    let mut two = [0u16; 2];
+    let mut long = [0u16; 512];
+    probe_schedule(bytes, &mut none);
+    probe_schedule(bytes, &mut one);
+    probe_schedule(bytes, &mut two);
+    probe_schedule(bytes, &mut long);
+}
+
+// The graph of a circuit file, then the same with one back insertion too many, which is not sound. Of a file that is refused
+// the empty graph, with a long buffer.
+fn probe_load(bytes: &[u8]) {
     let loaded = insertion::load(bytes);
     let answer = loaded.answer;
+    let g = loaded.graph;
     if let Outcome::Refused(r) = answer {
         print(b"load");
         print_refusal(r);
         print(b"\n");
+        let mut long = [0u16; 512];
+        probe_with(g, g.nodes.count, &mut long);
+        return;
     }
-    let g = loaded.graph;
     probe(g, g.nodes.count);
     let mut unsound = g;
     unsound.backs = if g.backs < 512 { g.backs + 1 } else { 0 };
     print(b"not sound\n");
     probe(unsound, 0);
+}
+
+// A circuit file: its schedule, its graph.
+fn probe_file(bytes: &[u8]) {
+    print(b"file of");
+    print_number(bytes.len());
+    print(b" bytes\n");
+    probe_schedules(bytes);
+    probe_load(bytes);
 }
 
 // The number in two bytes.
