@@ -157,6 +157,19 @@ fn block_times(c: &Case, turns: usize) -> Turns {
     )
 }
 
+/// From bytes to blocks: the original, ours by the load and the whole walk, ours in one call.
+fn schedule_times(c: &Case, turns: usize) -> Turns {
+    let (mut by_two, mut by_one) = ([0u16; 512], [0u16; 512]);
+    take_turns(
+        turns,
+        &mut [
+            &mut || _ = black_box(given::load(black_box(&c.file)).parallel_blocks().collect::<Vec<_>>()),
+            &mut || _ = black_box(sawhekonu::load(black_box(&c.file)).graph.whole_walk(black_box(&mut by_two))),
+            &mut || _ = black_box(sawhekonu::schedule(black_box(&c.file), black_box(&mut by_one))),
+        ],
+    )
+}
+
 fn blocked_times(c: &Case, turns: usize) -> Turns {
     let mut buffer = [0u16; 512];
     let n = c.n;
@@ -236,6 +249,23 @@ fn print_table(title: &str, head: &str, lines: &[String]) {
     lines.iter().for_each(|line| println!("{line}"));
 }
 
+/// From bytes to block numbers.
+pub fn schedules(turns: usize) {
+    let mut lines = Vec::new();
+    for (name, records) in rows() {
+        let t = schedule_times(&case(&records), (turns / 3).max(5));
+        lines.push(format!(
+            "| {name} | {:.0} | {:.2} | {:.2} | {:.0} | {:.2} |",
+            t.median(0), t.median(1), t.median(2), t.ratio(0, 2), t.ratio(1, 2)
+        ));
+    }
+    print_table(
+        "From bytes to block numbers",
+        "| row | original | ours, load and whole walk | ours, schedule | original / schedule | two calls / schedule |",
+        &lines,
+    );
+}
+
 pub fn main(turns: usize) {
     let slow = (turns / 3).max(5);
     let cases: Vec<(&str, Case)> = rows().iter().map(|(name, records)| (*name, case(records))).collect();
@@ -264,6 +294,7 @@ pub fn main(turns: usize) {
     print_table("`execution_blocked` of all nodes, a call", "| row | edges | original | ours | original / ours |", &tables[2]);
     print_table("Front-layer sweep, a call", "| row | edges | original | ours | original / ours |", &tables[3]);
     print_table("Single insertions, a call", "| row | original | ours | original / ours |", &tables[4]);
+    schedules(turns);
     growth(turns);
     worst(turns);
     worst_keys(turns);

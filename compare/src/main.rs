@@ -1,4 +1,4 @@
-//! The original and ours side by side: `compare run`, `compare bench` (of it `compare keys`), `compare differences`, and `compare replay`, which writes crate
+//! The original and ours side by side: `compare run`, `compare bench` (of it `compare keys`, `compare schedules`), `compare differences`, and `compare replay`, which writes crate
 //! replay's files.
 mod bench;
 mod checks;
@@ -21,10 +21,11 @@ fn main() {
         Some("run") => run::main(number(1)),
         Some("bench") => bench::main(number(31)),
         Some("keys") => bench::worst_keys(number(31)),
+        Some("schedules") => bench::schedules(number(31)),
         Some("differences") => differences::main(),
         Some("replay") => replay::main(words.get(1).expect("the crate's folder")),
         _ => {
-            eprintln!("compare run [0: a short run] | compare bench [TURNS] | compare keys [TURNS] | compare differences | compare replay FOLDER");
+            eprintln!("compare run [0: a short run] | compare bench, keys or schedules [TURNS] | compare differences | compare replay FOLDER");
             std::process::exit(2);
         }
     }
