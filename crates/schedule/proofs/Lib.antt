@@ -1,1 +1,2 @@
 pub mod ScheduleLaws
+pub mod CaseLaws

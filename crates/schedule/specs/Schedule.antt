@@ -51,7 +51,9 @@ pulses s = keep (λ (o : Accepted). takesQubits (o .bytes)) (placed s)
 
 -- "no accepted operation has an empty qubit set and, where qubit operations are accepted at both ends, at most one of them takes all qubits"
 pub record Condition (s : List ℕ) : Type 0 where
+  -- no pulse on nothing
   pub nonempty : anyOf (λ (o : Accepted). emptySet (o .bytes)) (pulses s) ≡ false
+  -- with pulses at the front and at the back, at most one on all qubits
   pub one-all : anyOf (λ (o : Accepted). front (o .bytes)) (pulses s) ≡ true → anyOf (λ (o : Accepted). not (front (o .bytes))) (pulses s) ≡ true
       → length (keep (λ (o : Accepted). takesAll (o .bytes)) (pulses s)) ≤ 1
 
@@ -69,7 +71,8 @@ pub record Scheduled (s : List ℕ) (k : ℕ) (numbers : List ℕ) : Type 0 wher
   pub once : Each (λ o. (t : ℕ) → member (o .node) (blockOfStep (load s .graph) t) ≡ eqb t (blockIn numbers (o .node))) (pulses s)
   -- "and other nodes get 65535"
   pub others : Each (λ o. takesQubits (o .bytes) ≡ false → blockIn numbers (o .node) ≡ 65535) (placed s)
-  -- "of two clashing ones the earlier in the circuit into the earlier block"
+  -- "of two clashing ones the earlier in the circuit into the earlier block": they share a qubit or one takes all, and the earlier has the smaller
+  -- place
   pub order : Orders (blockIn numbers) (pulses s)
   -- "Every other numbering of blocks from 0 that does the same puts no operation lower": a rival is any function from records to numbers that
   -- keeps all clashing pulses in order

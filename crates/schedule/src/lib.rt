@@ -7,8 +7,9 @@ ghost use Rattle.schedule.specs.Schedule.{schedule as scheduleOf};
 use file::Outcome;
 use walk::BlockCount;
 
-// The block number of each of the file's records, to the lent buffer; the answer is how many blocks there are. Every pulse is in exactly one block, clashing
-// ones in circuit order, and no schedule is lower anywhere or shorter.
+// The block number of each of the file's records, to the lent buffer; the answer is how many blocks there are. Where the
+// file meets the condition, every pulse is in exactly one block, clashing ones are in circuit order, and no other schedule
+// is lower anywhere or shorter.
 pub fn schedule(file: &[u8], buffer: &mut [u16]) -> BlockCount
     ensures { λ r. ⌜ record { answer = r; buffer = now (buffer .exit) } ≡ scheduleOf (now (file .entry)) (now (buffer .entry)) ⌝ }
     ensures { λ r. ⌜ ((k : ℕ) → r ≡ BlockCount.Blocks k → Condition (now (file .entry)) → Scheduled (now (file .entry)) k (now (buffer .exit))) ⌝ }
