@@ -303,26 +303,25 @@ fn print_step(g: CircuitDag, current: &[u8], executed: &[u8]) {
 }
 
 // The queries at a node, with an executed list and a layer.
-fn print_queries(g: CircuitDag, v: u8, executed: &[u8], layer: &[u8]) {
+fn print_answers(g: CircuitDag, v: NodeIndex, executed: &[u16], layer: &[u16]) {
     let mut buffer = [0u16; 512];
+    let a = queries::execution_blocked(g, executed, v, &mut buffer);
+    print_query(b"query, blocked by:", a, &buffer);
+    let b = queries::blocking_predecessors(g, executed, v, &mut buffer);
+    print_query(b"predecessors:", b, &buffer);
+    let c = queries::new_front_layer(g, executed, layer, v, &mut buffer);
+    print_query(b"layer:", c, &buffer);
+}
+
+// The same, the lists being bytes.
+fn print_queries(g: CircuitDag, v: u8, executed: &[u8], layer: &[u8]) {
     let mut done = [0u16; 32];
     let k = numbers_of(executed, &mut done);
     let mut line = [0u16; 32];
     let m = numbers_of(layer, &mut line);
     let start: usize = 0;
     let node = wide(v) as u16;
-    let a = queries::execution_blocked(g, &done[start..k], NodeIndex(node), &mut buffer);
-    print_query(b"query, blocked by:", a, &buffer);
-    let b = queries::blocking_predecessors(g, &done[start..k], NodeIndex(node), &mut buffer);
-    print_query(b"predecessors:", b, &buffer);
-    let c = queries::new_front_layer(
-        g,
-        &done[start..k],
-        &line[start..m],
-        NodeIndex(node),
-        &mut buffer,
-    );
-    print_query(b"layer:", c, &buffer);
+    print_answers(g, NodeIndex(node), &done[start..k], &line[start..m]);
 }
 
 // Where a part of n bytes that starts at `at` ends, at most at the input's end.
