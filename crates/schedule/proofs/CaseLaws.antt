@@ -1,11 +1,12 @@
 -- The files of specs/Cases.antt, by computing the rules. Assumes nothing.
 use mathlib.Core.Path.{_≡_, refl}
 use mathlib.Core.Bool.{true, false}
-use Prim.Native.Nat.{ℕ, _≤_}
+use Prim.Native.Nat.{ℕ}
 use native.Mathlib.Omega.{arith}
 use Rattle.file.specs.Lists.{anyOf, allOf, keep, distinct, countFrom, markedFrom}
 use Rattle.file.specs.Pairs.{numberAt, checkPairs, checkFile, pairPlace}
 use Rattle.file.specs.Records.{definitionRule, qubitRule, tailRule, recordRule, good, causeOf, qubitsBy, classicalOf}
+use Rattle.file.proofs.BoolLaws.{clash-bool}
 use Rattle.graph.specs.Dag.{noEnd, noRegisters, empty}
 use Rattle.graph.specs.Soundness.{ascends, sound}
 use Rattle.queries.specs.Reach.{reachedBy, blocking}
@@ -19,8 +20,8 @@ use Rattle.schedule.specs.Schedule.{schedule, placedFrom}
 use Rattle.schedule.specs.Cases.{Cases}
 
 -- a file without a front pulse has no condition on all-qubit pulses
-no-front : {n : ℕ} → false ≡ true → n ≤ 1
-no-front h = let z : _≡_ {A = ℕ} 0 1 = cc in omega arith
+no-front : {P : Type 0} → false ≡ true → P
+no-front h = absurd (clash-bool h refl)
 
 -- a declaration that says `unfolding fileRules graphRules walkRules` computes with every rule that a schedule goes by
 unfoldable fileRules : ℕ

@@ -1,6 +1,9 @@
 -- `schedule::schedule` meets its contract. Assumes nothing.
 use mathlib.Core.Path.{_∙_}
+use Prim.Native.Nat.{ℕ, _<_}
 use native.Mathlib.Omega.{arith}
+use lib.ListN.{getD}
+use denote.Ref.{now}
 use Rattle.schedule.proofs.ScheduleLaws.{walks, refuses, promised}
 use borrow.Author.Needs.{needs}
 use Rattle.schedule.proofs.schedule.Statement.{statement}
@@ -35,7 +38,10 @@ returns-2 c =
     let told = c .before in
     let loaded = told .before .before in
     let entry = loaded .before .before in
-    promised _ (λ i. omega (arith, entry .shared-slice-known .given i)) _ _ _ (refuses _ _ _ (loaded .load .ensures) _ (told .answer .given .1))
+    let file = now (entry .before .args .file) in
+    let bytes : ((i : ℕ) → getD file i 0 < 256) = λ i. omega (arith, entry .shared-slice-known .given i) in
+    let p = promised file bytes _ _ _ (refuses _ _ _ (loaded .load .ensures) _ (told .answer .given .1)) in
+    (p .0, p .1)
 
 pub schedule-spec : {M : Type 1} → statement M
 schedule-spec =
