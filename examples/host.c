@@ -291,7 +291,7 @@ static void schedules(void) {
 static void three_in_a_row(void) {
     sawhekonu_graph_answer g = {.graph = sawhekonu_new()};
     holds("new", g.graph.nodes.count == 0 && g.graph.first.node[63] == SAWHEKONU_NONE && g.graph.last.all == SAWHEKONU_NONE);
-    answered("whole_walk of new", sawhekonu_whole_walk(g.graph, buffer, 0), 0, 0);
+    answered("whole_walk of new", sawhekonu_whole_walk(g.graph, NULL, 0), 0, 0);
     uint8_t record[14];
     for (uint16_t v = 0; v < 3; v++) {
         gate(record, 0, 1, (uint16_t)(4660 + v));
@@ -409,6 +409,7 @@ static void torn_files(void) {
     answered("load of a byte", g.answer, SAWHEKONU_FILE_TOO_SHORT, SAWHEKONU_NONE);
     holds("load of a byte", same_dag(&g.graph, &empty));
     answered("locate_record in a byte", sawhekonu_locate_record(file, 1, 0).answer, SAWHEKONU_FILE_TOO_SHORT, SAWHEKONU_NONE);
+    answered("load of nothing", sawhekonu_load(NULL, 0).answer, SAWHEKONU_FILE_TOO_SHORT, SAWHEKONU_NONE);
     answered("load of cut pairs", sawhekonu_load(file, 13).answer, SAWHEKONU_FILE_TOO_SHORT, SAWHEKONU_NONE);
     answered("load of a cut record", sawhekonu_load(file, 55).answer, SAWHEKONU_BAD_PAIR, 2);
     answered("from_circuit of a cut record", sawhekonu_from_circuit(file, 55).answer, SAWHEKONU_BAD_PAIR, 2);
@@ -440,6 +441,7 @@ static void refused_queries(void) {
     refused("new_front_layer, node not in it", sawhekonu_new_front_layer(case2, none, 0, layer, 2, 0, buffer, ROOM), SAWHEKONU_NOT_IN_LAYER);
     refused("new_front_layer, short buffer", sawhekonu_new_front_layer(case2, none, 0, layer, 2, 2, buffer, 0), SAWHEKONU_SHORT_BUFFER);
     refused("execution_blocked, short buffer", sawhekonu_execution_blocked(case2, none, 0, 2, buffer, 1), SAWHEKONU_SHORT_BUFFER);
+    refused("execution_blocked, no lists", sawhekonu_execution_blocked(case2, NULL, 0, 2, NULL, 0), SAWHEKONU_SHORT_BUFFER);
     refused("blocking_predecessors, short buffer", sawhekonu_blocking_predecessors(case2, none, 0, 2, buffer, 1), SAWHEKONU_SHORT_BUFFER);
     refused("successors, short buffer", sawhekonu_successors(case2, 0, buffer, 0), SAWHEKONU_SHORT_BUFFER);
     refused("to_circuit, short buffer", sawhekonu_to_circuit(case2, buffer, 2), SAWHEKONU_SHORT_BUFFER);

@@ -98,6 +98,11 @@ def no_record(text):
     qubits = re.match(r"[BF]\s*\{[^}]*\}?", text)
     if qubits:
         return f"'{qubits[0][:40]}': qubits are numbers with a comma between two, in braces, as in B{{0,1}}"
+    definition = re.match(r"(?:[BF]\s+)?(?:Bit|Float|Usize|Complex)\b", text)
+    if definition:
+        return f"'{text[:40]}': a definition says its name and its length, as in Bit name 1 length 2"
+    if re.match(r"label\b|kind\b", text):
+        return f"'{text[:20]}': label and kind stand behind a record, each with its number"
     return f"no record at '{text[:20]}': one starts with B, F, Bit, Float, Usize or Complex"
 
 
