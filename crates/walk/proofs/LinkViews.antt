@@ -21,7 +21,7 @@ use Rattle.file.proofs.BoolLaws.{bool-cases, clash-bool, not-true, bool-ext, an
 use Rattle.graph.proofs.ListLaws.{any-here, any-later, any-at, at-any, any-snoc, distinct-first, distinct-rest}
 use Rattle.links.specs.Links.{Linked, FarRule, ruleOf, source, nearAfter, noQubit, qubitsFrom, qubits, linkQubits, linkSet, mapped, linkAll, linkBy}
 use Rattle.links.proofs.QubitLaws.{qubits-ascend}
-use Rattle.links.proofs.LinkLaws.{addPresent, linkOne, ascend-distinct, set-entries, set-outside, farEntry}
+use Rattle.links.proofs.LinkLaws.{addPresent, linkOne, ascend-distinct, steady-rule, set-entries, set-outside, farEntry}
 use Rattle.insertion.proofs.SafeEnds.{all-same}
 use Rattle.walk.proofs.Bounds.{any, any-intro, any-elim, any-and, and-any, any-ext, any-none, none-any}
 use Rattle.walk.proofs.BlockSteps.{any-list, not-empty, empty-not}
@@ -321,14 +321,14 @@ module _ (n : ℕ) (E : ℕ → ℕ → Bool) (near far : End) (N : Net) (S : Se
     set-lasts : (q : ℕ) → q < 64 → cond (has m q) (some (N .size)) (N .last q) ≡ found (atQubit (x .near) q)
     set-lasts q l = ⊎-elim
         (λ (e : has m q ≡ true). rw e (ap some (S .size) ∙ sym (found-low n (F .low))
-        ∙ ap found (sym (set-entries (ruleOf farAll) (λ a b c d. refl) m n q near far e (omega (arith, F .near-nodes)) (omega (arith, F .far-nodes)) .0))))
+        ∙ ap found (sym (set-entries (ruleOf farAll) (steady-rule farAll) m n q near far e (omega (arith, F .near-nodes)) (omega (arith, F .far-nodes)) .0))))
         (λ (e : has m q ≡ false). rw e (S .lasts q l ∙ ap found (sym (set-outside (ruleOf farAll) m n q near far e .0))))
         (bool-cases (has m q))
 
     set-firsts : (q : ℕ) → q < 64 → cond (has m q && not (isSome (N .last q))) (some (farIn farAll N (N .size))) (N .first q) ≡ found (atQubit (x .far) q)
     set-firsts q l = ⊎-elim
         (λ (e : has m q ≡ true). rw e (new (present (atQubit near q)) refl
-        ∙ ap found (sym (set-entries (ruleOf farAll) (λ a b c d. refl) m n q near far e (omega (arith, F .near-nodes)) (omega (arith, F .far-nodes)) .1))))
+        ∙ ap found (sym (set-entries (ruleOf farAll) (steady-rule farAll) m n q near far e (omega (arith, F .near-nodes)) (omega (arith, F .far-nodes)) .1))))
         (λ (e : has m q ≡ false). rw e (S .firsts q l ∙ ap found (sym (set-outside (ruleOf farAll) m n q near far e .1))))
         (bool-cases (has m q))
       where
