@@ -24,6 +24,7 @@ abbrev pub case5 : List ℕ
 case5 = 5 ∷ 0 ∷ 22 ∷ 0 ∷ 14 ∷ 0 ∷ 36 ∷ 0 ∷ 14 ∷ 0 ∷ 50 ∷ 0 ∷ 14 ∷ 0 ∷ 64 ∷ 0 ∷ 14 ∷ 0 ∷ 78 ∷ 0 ∷ 14 ∷ 0
     ∷ (pulse 0 2 1 ++ pulse 0 1 0 ++ pulse 0 1 0 ++ pulse 1 2 8 ++ pulse 0 2 8)
 
+-- what `schedule` answers on these files, and of which of them it promises demand 3
 pub record Cases : Type 0 where
   -- "blocks {0,1} {2}"; an entry after the answer keeps its old contents
   pub case-2 : schedule case2 (9 ∷ 9 ∷ 9 ∷ 9 ∷ []) ≡ record { answer = Blocks 2; buffer = 0 ∷ 0 ∷ 1 ∷ 9 ∷ [] }
