@@ -341,8 +341,8 @@ fn probe_schedules(bytes: &[u8]) {
     probe_schedule(bytes, &mut long);
 }
 
-// The graph of a circuit file, then the same with one back insertion too many, which is not sound. Of a file that is refused
-// the empty graph, with a long buffer.
+// The graph of a circuit file, the empty one where it is refused, then the same with one back insertion too many, which is
+// not sound.
 fn probe_load(bytes: &[u8]) {
     let loaded = insertion::load(bytes);
     let answer = loaded.answer;
@@ -351,9 +351,6 @@ fn probe_load(bytes: &[u8]) {
         print(b"load");
         print_refusal(r);
         print(b"\n");
-        let mut long = [0u16; 512];
-        probe_with(g, g.nodes.count, &mut long);
-        return;
     }
     probe(g, g.nodes.count);
     let mut unsound = g;
