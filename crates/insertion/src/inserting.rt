@@ -72,7 +72,7 @@ fn insert_sound(rule: LoadingRule, i: usize, g: CircuitDag, part: &[u8]) -> Inse
 }
 
 // Any bytes as a record on any graph: 11, then 4 to 7. A refusal returns the graph that came in.
-pub fn insert_by(rule: LoadingRule, g: CircuitDag, part: &[u8]) -> Inserted
+pub(crate) fn insert_by(rule: LoadingRule, g: CircuitDag, part: &[u8]) -> Inserted
     ensures { λ r. ⌜ r ≡ insertBy rule g (now (part .entry)) ⌝ }
 {
     if graph::is_sound(g) {

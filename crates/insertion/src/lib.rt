@@ -11,9 +11,7 @@ use file::Refusal;
 use graph::CircuitDag;
 use graph::NodeIndex;
 pub use inserting::insert;
-pub use inserting::insert_by;
 pub use loading::load;
-pub use loading::load_by;
 
 // What an insertion answers, beside the graph.
 pub enum Answer {

@@ -69,7 +69,7 @@ pub(crate) fn insert_in_order(rule: LoadingRule, file: &[u8], order: &[u16]) -> 
 }
 
 // A circuit file, or the first refusal: 2, 1, 3, then per record 4, 6, 7.
-pub fn load_by(rule: LoadingRule, file: &[u8]) -> Loaded
+pub(crate) fn load_by(rule: LoadingRule, file: &[u8]) -> Loaded
     ensures { λ r. ⌜ r ≡ loadBy rule (now (file .entry)) ⌝ }
 {
     let found = file::check_file(file);
