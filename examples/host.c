@@ -414,9 +414,9 @@ static void torn_files(void) {
     answered("load of a cut record", sawhekonu_load(file, 55).answer, SAWHEKONU_BAD_PAIR, 2);
     answered("from_circuit of a cut record", sawhekonu_from_circuit(file, 55).answer, SAWHEKONU_BAD_PAIR, 2);
     answered("locate_record in a cut file", sawhekonu_locate_record(file, 55, 0).answer, SAWHEKONU_BAD_PAIR, 2);
-    file[6]++;
-    answered("load of a bad pair", sawhekonu_load(file, 56).answer, SAWHEKONU_BAD_PAIR, 1);
     file[6]--;
+    answered("load of a bad pair", sawhekonu_load(file, 56).answer, SAWHEKONU_BAD_PAIR, 1);
+    file[6]++;
     file[30] = 3;
     answered("load of a bad record", sawhekonu_load(file, 56).answer, SAWHEKONU_BAD_RECORD, 1);
     file[0] = 1;
@@ -426,6 +426,37 @@ static void torn_files(void) {
     sawhekonu_graph_answer x = sawhekonu_insert(case2, case2_file + 14, 13);
     answered("insert of a cut record", x.answer, SAWHEKONU_BAD_RECORD, 0);
     holds("insert of a cut record", same_dag(&x.graph, &case2));
+}
+
+/* case 2 with five bytes before each record and behind the last: graph, conversion and schedule are those of the file without them */
+static void slack_between_records(void) {
+    uint8_t file[76];
+    memset(file, 255, sizeof file);
+    put(file, 3);
+    for (size_t i = 0; i < 3; i++) {
+        put(file + 2 + 4 * i, 19 + 19 * i);
+        put(file + 4 + 4 * i, 14);
+        memcpy(file + 19 + 19 * i, case2_file + 14 + 14 * i, 14);
+    }
+    sawhekonu_graph_answer g = sawhekonu_load(file, sizeof file);
+    answered("load with slack", g.answer, 0, 0);
+    holds("load with slack", same_dag(&g.graph, &case2));
+    sawhekonu_dag converted = sawhekonu_from_circuit(case2_file, case2_length).graph;
+    g = sawhekonu_from_circuit(file, sizeof file);
+    answered("from_circuit with slack", g.answer, 0, 0);
+    holds("from_circuit with slack", same_dag(&g.graph, &converted));
+    answered("schedule with slack", sawhekonu_schedule(file, sizeof file, buffer, 3), 0, 2);
+    wrote("schedule with slack", LIST(0, 0, 1));
+    sawhekonu_place_answer p = sawhekonu_locate_record(file, sizeof file, 2);
+    answered("locate_record with slack", p.answer, 0, 0);
+    holds("locate_record with slack", p.offset == 57 && p.length == 14);
+    answered("load, cut behind the last record", sawhekonu_load(file, 71).answer, 0, 0);
+    answered("load, cut in the last record", sawhekonu_load(file, 70).answer, SAWHEKONU_BAD_PAIR, 2);
+    put(file, 0);
+    sawhekonu_dag empty = sawhekonu_new();
+    g = sawhekonu_load(file, sizeof file);
+    answered("load of no record and bytes behind", g.answer, 0, 0);
+    holds("load of no record and bytes behind", same_dag(&g.graph, &empty));
 }
 
 static void refused_queries(void) {
@@ -643,6 +674,7 @@ int main(int count, char **words) {
     registers();
     accessors();
     torn_files();
+    slack_between_records();
     refused_queries();
     unsound_graphs();
     walks_of_no_marks();

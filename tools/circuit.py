@@ -79,18 +79,22 @@ def record(m):
     return head + struct.pack("<Q", mask) + bytes([register]) + label + tail
 
 
-def circuit_file(records):
-    """A circuit file of these records' bytes, without slack. Any number of them up to 65535: what is over 512 is for tests of the refusal."""
+def circuit_file(records, slack=()):
+    """A circuit file of these records' bytes, with the bytes slack[i] before record i and slack[n] behind the n records; without slack where there
+    is no such entry. Any number of records up to 65535: what is over 512 is for tests of the refusal."""
+    slack = [*slack, *[b""] * (len(records) + 1 - len(slack))]
     at = 2 + 4 * len(records)
-    pairs = b""
-    for r in records:
+    pairs = parts = b""
+    for r, before in zip(records, slack):
+        at += len(before)
         if at > 65535:
             raise CircuitError("an offset is over 65535")
         if len(r) > 65535:
             raise CircuitError("a record has over 65535 bytes")
         pairs += struct.pack("<HH", at, len(r))
+        parts += before + r
         at += len(r)
-    return struct.pack("<H", len(records)) + pairs + b"".join(records)
+    return struct.pack("<H", len(records)) + pairs + parts + slack[len(records)]
 
 
 def no_record(text):
@@ -156,7 +160,7 @@ def notation(r):
 
 
 def show(data):
-    """A line for each record, and a last line where the file is torn: its pairs do not lead one after the other to its end."""
+    """A line for each record, and a last line where the file is torn: a pair leads into what stands before it, or the last one past the end."""
     if len(data) < 2:
         raise CircuitError("the file is torn: it has not even the two bytes of its record count")
     n = struct.unpack("<H", data[:2])[0]
@@ -164,15 +168,16 @@ def show(data):
         raise CircuitError(f"the header says {n} records; 512 are the most")
     if len(data) < 2 + 4 * n:
         raise CircuitError(f"the file is torn: its table of {n} pairs is cut off")
-    lines, due, torn = [], 2 + 4 * n, None
+    lines, end, torn = [], 2 + 4 * n, None
     for i in range(n):
         offset, length = struct.unpack("<HH", data[2 + 4 * i:6 + 4 * i])
-        if offset != due and torn is None:
-            torn = f"the file is torn: pair {i} starts at {offset}, where {due} is due"
-        due = offset + length
+        if offset < end and torn is None:
+            before = f"record {i - 1}" if i else "the table of pairs"
+            torn = f"the file is torn: pair {i} starts at {offset}, but {before} ends at {end}"
+        end = offset + length
         lines.append(f"{i}: {shown(data[offset:offset + length])}")
-    if torn is None and due != len(data):
-        torn = f"the file is torn: its records end at {due}, the file at {len(data)}"
+    if torn is None and end > len(data):
+        torn = f"the file is torn: its last record ends at {end}, the file at {len(data)}"
     return lines, torn
 
 

@@ -1,8 +1,8 @@
 #!/usr/bin/env python3
-"""The answers that document 01's "Circuit file" gives to the files of crates/file_runs, read from the document alone.
+"""The answers that document 01's "Circuit file", with K1's rule of the pairs, gives to the files of crates/file_runs, read from the documents alone.
 
 Prints what crates/file_runs/stdout must hold:  python3 tools/file_answers.py | diff - crates/file_runs/stdout
-With the argument --rust it prints the small good file as the array of crates/file_runs/src/main.rt."""
+With the argument --rust it prints the small good file and the one with slack as the arrays of crates/file_runs/src/main.rt."""
 import sys
 from collections import Counter
 
@@ -27,6 +27,9 @@ GOOD = circuit_file([
     record(),
 ])
 
+# Three of these records, with slack before, between and behind them.
+SLACK = circuit_file([record(form=2, mask=1), record(kind=1, register=4, tail=bytes([1, 44, 1])), record()], [b"\xff" * n for n in (3, 5, 1, 4)])
+
 
 def number(s, at, n):
     return int.from_bytes(s[at:at + n], "little")
@@ -41,12 +44,12 @@ def check(s):
         return (2, None)
     if len(s) < 2 + 4 * n:
         return (1, None)
-    due = 2 + 4 * n
+    end = 2 + 4 * n
     for k in range(n):
-        if number(s, 2 + 4 * k, 2) != due:
+        if number(s, 2 + 4 * k, 2) < end:
             return (3, k)
-        due += number(s, 4 + 4 * k, 2)
-    return None if due == len(s) else (3, max(n - 1, 0))
+        end = number(s, 2 + 4 * k, 2) + number(s, 4 + 4 * k, 2)
+    return None if end <= len(s) else (3, n - 1)
 
 
 def keeps_rule(r):
@@ -108,9 +111,47 @@ def changed(s):
                 yield s[:at] + bytes([b]) + s[at + 1:]
 
 
+def two_parts(first, first_length, second, second_length, size):
+    """A file of two records, all zeros but its header and pairs."""
+    pairs = b"".join(n.to_bytes(2, "little") for n in (2, first, first_length, second, second_length))
+    return (pairs + bytes(size))[:size]
+
+
+def slack():
+    print("slack")
+    for title, s in [
+        ("none", two_parts(10, 14, 24, 14, 38)), ("before the first part", two_parts(11, 14, 25, 14, 39)),
+        ("between the parts", two_parts(10, 14, 29, 14, 43)), ("behind the last part", two_parts(10, 14, 24, 14, 39)),
+        ("before, between and behind", two_parts(13, 14, 32, 14, 131070)),
+        ("the first part in the table", two_parts(9, 14, 24, 14, 38)), ("the second part in the first", two_parts(10, 14, 23, 14, 38)),
+        ("the second part before the first", two_parts(24, 14, 10, 14, 38)), ("the first part past the end", two_parts(10, 200, 24, 14, 38)),
+        ("the last part past the end", two_parts(10, 14, 25, 14, 38)), ("two parts at one offset", two_parts(10, 0, 10, 14, 24)),
+        ("the second part of no byte", two_parts(10, 14, 24, 0, 24)), ("the second part behind the end", two_parts(10, 14, 25, 0, 24)),
+        ("ends at 65536 of 65549", two_parts(10, 14, 65522, 14, 65549)),
+        ("ends at 65549 of 65549", two_parts(10, 14, 65535, 14, 65549)),
+        ("ends at 65549 of 65548", two_parts(10, 14, 65535, 14, 65548)),
+        ("ends at 131070 of 131070", two_parts(10, 14, 65535, 65535, 131070)),
+        ("ends at 131070 of 131069", two_parts(10, 14, 65535, 65535, 131069)),
+        ("ends at 66000, next at 464", two_parts(65000, 1000, 464, 14, 66000)),
+    ]:
+        print(f"{title}: {text(parse_all(s))}")
+        for i in range(2):
+            refused = read(s, i)
+            print(f"  record {i}: " + (text(refused) if refused else f"{number(s, 4 + 4 * i, 2)} bytes from {number(s, 2 + 4 * i, 2)} on"))
+    for i in range(4):
+        print_record(SLACK, i)
+    for size in (72, 68, 67):
+        print(f"{size} bytes of it: {text(parse_all(SLACK[:size]))}")
+
+
+def print_record(s, i):
+    print(f"record {i}:" + "".join(f" {b}" for b in (part(s, i) if read(s, i) is None else b"")))
+
+
 def main():
     if "--rust" in sys.argv:
-        print(len(GOOD), ", ".join(map(str, GOOD)))
+        for s in (GOOD, SLACK):
+            print(len(s), ", ".join(map(str, s)))
         return
     prefixes = [GOOD[:n] for n in range(len(GOOD) + 1)]
     counted("prefixes, parsed", [parse_all(s) for s in prefixes])
@@ -132,7 +173,8 @@ def main():
         tail = bytes([c]) + entries(*[(1, k) for k in range(n)])[1:]
         print(f"{c} and {n}: {text(parse_all(circuit_file([record(register=3, tail=tail)])))}")
     for i in range(8):
-        print(f"record {i}:" + "".join(f" {b}" for b in (part(GOOD, i) if read(GOOD, i) is None else b"")))
+        print_record(GOOD, i)
+    slack()
 
 
 if __name__ == "__main__":

@@ -1,8 +1,11 @@
 #!/usr/bin/env python3
-"""What document 01 answers for the files of crates/blocks_runs, crates/limits and crates/query_runs, computed from the document alone.
+"""What document 01, with K1's rule of the pairs, answers for the files of crates/blocks_runs, blocks_long, blocks_slack, limits and query_runs,
+computed from the documents alone.
 
   graph_answers.py stdin | diff - crates/blocks_runs/stdin      the files, each behind its length in two bytes
   graph_answers.py stdout | diff - crates/blocks_runs/stdout    what `blocks` prints for each
+  graph_answers.py long-file | diff - crates/blocks_long/stdin  a file over 65,536 bytes whose last part ends one byte beyond them
+  graph_answers.py slack-file | diff - crates/blocks_slack/stdin  .. and one whose last part ends just there
   graph_answers.py limits | diff - crates/limits/stdout
   graph_answers.py query-files | diff - crates/query_runs/stdin  the same for crates/query_runs
   graph_answers.py queries | diff - crates/query_runs/stdout
@@ -200,7 +203,27 @@ def runs():
     return ([b"", b"\0", bytes(2), bytes(3), case2] + [circuit_file(parse(c)) for c in bench]                 # the empty file, cases 1 to 7 and 10
             + [case2[:k] for k in (13, 14, 42, 55)] + [case2 + b"\0", b"\x01\x02", bytes([0, 2])]            # torn files
             + [case2[:29] + b"\x06" + case2[30:], circuit_file([record(), b"", record()])]                   # a refused record
-            + [layers, more, definition(256), definition(257), gates(512), gates(512, 1)])                   # the limits
+            + [layers, more, definition(256), definition(257), gates(512), gates(512, 1)]                    # the limits
+            + slack_files())
+
+
+def slack_files():
+    """K1: case 2 and a definition with slack before, between and behind the records; 512 records with a byte between two; no record and bytes behind;
+    two parts at one offset; a part in the table, one in the part before it, one past the file's end."""
+    case2, gate = parse("B{0} B{1} B{0,1}"), record(form=2, mask=1)
+    tight = circuit_file(case2)
+    return ([circuit_file(case2, [b"\xff" * n for n in sizes]) for sizes in ((5,), (0, 5, 9), (0, 0, 0, 5), (1, 2, 3, 4))]
+            + [circuit_file(parse("Bit name 1 length 2; F{0}; B{0}/Set (1,0)"), [b"B{7}"] * 4), circuit_file([gate] * 512, [b"\xff"] * 513)]
+            + [bytes(2) + tight, circuit_file([b"", *case2]), tight[:2] + b"\x0d" + tight[3:], tight[:10] + b"\x29" + tight[11:],
+               tight[:8] + b"\x0f" + tight[9:], tight[:12] + b"\x0f" + tight[13:]])
+
+
+def long_file(end):
+    """Case 2 with slack before, between and behind its records, 65,600 bytes, of which the last part ends at `end`."""
+    case2 = parse("B{0} B{1} B{0,1}")
+    first = circuit_file(case2[:2], [b"\xff" * 5, b"\xff" * 7])
+    s = circuit_file(case2, [b"\xff" * 5, b"\xff" * 7, b"\xff" * (end - len(first) - 4 - 14)])
+    return s + b"\xff" * (65600 - len(s))
 
 
 def limits():
@@ -221,13 +244,14 @@ def limits():
 
 
 def query_files():
-    """Circuits of several blocks at both ends, with definitions, a kind 5, no operation, no record; then files refused 1, 1, 2, 3, 3, 4, 6, 7."""
+    """Circuits of several blocks at both ends, with definitions, a kind 5, no operation, no record; then files refused 1, 1, 2, 3, 3, 4, 6, 7; then
+    the first circuit with slack, and with its second record beginning in the first."""
     texts = ["B{0} B{1} B{0,1}", "B{0} B All B All F{3} B{3}", "B All F{0} F{1} B{0,1} B{2} F{2}", "F{0} F{0} F{0}", "",
              "Bit name 1 length 2; B{0} kind 5; F Float name 2 length 1; B{1}; F{0} label 7; B None", "B None/All name 2; B None", "B{} B All",
              "B{0,1} B{0} B{1} B{2,3} B{3} B{1,3} B{0,2} F{0,3} F{1}"]
     files = [circuit_file(parse(t)) for t in texts]
     return files + [b"\0", files[0][:13], b"\x01\x02", files[0][:55], files[0][:6] + b"\x1d" + files[0][7:], files[0][:30] + b"\3" + files[0][31:],
-                    one_edge_more(), definition(257)]
+                    one_edge_more(), definition(257), circuit_file(parse(texts[0]), [b"\xff"] * 4), files[0][:6] + b"\x1b" + files[0][7:]]
 
 
 def asked(title, size, buffer, tests, answer):
@@ -333,6 +357,10 @@ def main(words):
         sys.stdout.buffer.write(b"".join(len(s).to_bytes(2, "little") + s for s in runs()))
     elif words == ["stdout"]:
         print("".join(f"file of {len(s)} bytes\n{text(s)}" for s in runs()), end="")
+    elif words == ["long-file"]:
+        sys.stdout.buffer.write(long_file(65537))
+    elif words == ["slack-file"]:
+        sys.stdout.buffer.write(long_file(65536))
     elif words == ["limits"]:
         limits()
     elif words == ["query-files"]:

@@ -1,4 +1,4 @@
-// The program `blocks` on a file that goes on after 65,536 bytes: those before make one pair and one record, which breaks its rule.
+// The program `blocks` on a file of 65,600 bytes whose last part ends one byte beyond the first 65,536, the only ones that it takes.
 fn main() {
     standard_io::print_blocks();
 }

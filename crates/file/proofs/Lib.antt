@@ -1,3 +1,4 @@
 pub mod BoolLaws
 pub mod PairLaws
 pub mod RecordLaws
+pub mod TightLaws

@@ -6,11 +6,12 @@ use Prim.Native.Nat.{ℕ, zero, suc, _+_, _*_, _-_, _<_, _≤_}
 use native.Mathlib.Omega.{arith}
 use native.Mathlib.Numerals.{add-one}
 use native.Mathlib.Decide.{ℕ-discrete}
-use lib.Dec.{ltb, eqb}
+use lib.Dec.{ltb, leb}
 use lib.ListN.{length, take, drop, getD, length-take, length-drop, List·getD-eq-default}
 use denote.Ref.{RefT, ptr, now}
-use borrow.Author.Tests.{eq-eqb, ne-eqb, eqb-true, ltb-true, ltb-false, lt-ltb, le-ltb}
+use borrow.Author.Tests.{leb-true, le-leb, lt-leb, ltb-true, ltb-false, lt-ltb, le-ltb}
 use Rattle.file.specs.Pairs.{numberAt, offsetOf, lengthOf, countOf, checkPairs, checkFile, placeFrom, locateRecord, pairPlace, Part, partOf, recordAt}
+use Rattle.file.specs.Tight.{OwnParts}
 use Rattle.file.specs.declared.Refusal.{Refusal}
 use Rattle.file.specs.declared.Refusal.the-variants.{FileTooShort, TooManyRecords, BadPair, Absent}
 use Rattle.file.specs.declared.FileCheck.{FileCheck}
@@ -20,66 +21,68 @@ use Rattle.file.specs.declared.Place.the-variants.{At, Refused as NotThe
 
 -- ---- Which byte lists are accepted
 
--- where part k is due: behind the pairs and the parts before it
-unfoldable pub dueAt : List ℕ → ℕ → ℕ
-dueAt s zero = 2 + 4 * countOf s
-dueAt s (suc k) = dueAt s k + lengthOf s k
+-- where what stands before part k ends: the pairs, or part k - 1
+unfoldable pub endBefore : List ℕ → ℕ → ℕ
+endBefore s zero = 2 + 4 * countOf s
+endBefore s (suc k) = offsetOf s k + lengthOf s k
 
--- "Bytes 0-1: record count n, at most 512. Then n pairs .. The first offset is 2 + 4n, each later one is the previous offset plus its length, and the
--- last part ends at the file's end."
+-- "Bytes 0-1: record count n, at most 512. Then n pairs .." K1: "the first offset is at least 2 + 4n, each later one at least the end of the previous
+-- part, and the last part ends at or before the file's end"
 pub record Accepted (s : List ℕ) : Type 0 where
   pub two : 2 ≤ length s
   pub many : countOf s ≤ 512
   pub pairs : 2 + 4 * countOf s ≤ length s
-  pub starts : (k : ℕ) → k < countOf s → offsetOf s k ≡ dueAt s k
-  pub end : dueAt s (countOf s) ≡ length s
+  pub starts : (k : ℕ) → k < countOf s → endBefore s k ≤ offsetOf s k
+  pub end : endBefore s (countOf s) ≤ length s
 
 -- which way a test went, where one way is not the answer
-was-true : (b : Bool) (x y z : FileCheck) → cond b x y ≡ z → (y ≡ z → ⊥) → (b ≡ true) × (x ≡ z)
+pub was-true : (b : Bool) (x y z : FileCheck) → cond b x y ≡ z → (y ≡ z → ⊥) → (b ≡ true) × (x ≡ z)
 was-true true x y z e n = (refl, e)
 was-true false x y z e n = absurd (n e)
 
-was-false : (b : Bool) (x y z : FileCheck) → cond b x y ≡ z → (x ≡ z → ⊥) → (b ≡ false) × (y ≡ z)
+pub was-false : (b : Bool) (x y z : FileCheck) → cond b x y ≡ z → (x ≡ z → ⊥) → (b ≡ false) × (y ≡ z)
 was-false true x y z e n = absurd (n e)
 was-false false x y z e n = (refl, e)
 
-not-refused : (r : Refusal) → Refused r ≡ Sound → ⊥
+pub not-refused : (r : Refusal) → Refused r ≡ Sound → ⊥
 not-refused r e = let z : _≡_ {A = ℕ} 0 1 = cc in omega arith
 
-turned : (m k due : ℕ) (s : List ℕ) → checkPairs (suc m) k due s ≡ Sound → (offsetOf s k ≡ due) × (checkPairs m (k + 1) (due + lengthOf s k) s ≡ Sound)
+turned : (m k end : ℕ) (s : List ℕ) → checkPairs (suc m) k end s ≡ Sound
+    → (end ≤ offsetOf s k) × (checkPairs m (k + 1) (offsetOf s k + lengthOf s k) s ≡ Sound)
 unfolding checkPairs
-turned m k due s e = let w = was-true (eqb (offsetOf s k) due) _ _ _ e (not-refused (BadPair k)) in (eqb-true _ _ (w .0), w .1)
+turned m k end s e = let w = was-true (leb end (offsetOf s k)) _ _ _ e (not-refused (BadPair k)) in (leb-true _ _ (w .0), w .1)
 
-pub due-next : (s : List ℕ) (k : ℕ) → dueAt s (k + 1) ≡ dueAt s k + lengthOf s k
-unfolding dueAt
-due-next s k = rw add-one refl
+pub end-next : (s : List ℕ) (k : ℕ) → endBefore s (k + 1) ≡ offsetOf s k + lengthOf s k
+unfolding endBefore
+end-next s k = rw add-one refl
 
--- m pairs from pair k on are accepted exactly if each stands where it is due and the last part ends at the file's end
-pairs-start : (m k : ℕ) (s : List ℕ) → checkPairs m k (dueAt s k) s ≡ Sound → (i : ℕ) → k ≤ i → i < k + m → offsetOf s i ≡ dueAt s i
+-- m pairs from pair k on are accepted exactly if each begins no earlier than what stands before it ends, and the last part ends within the file
+pairs-start : (m k : ℕ) (s : List ℕ) → checkPairs m k (endBefore s k) s ≡ Sound → (i : ℕ) → k ≤ i → i < k + m → endBefore s i ≤ offsetOf s i
 pairs-start zero k s e i l h = absurd (omega arith)
 pairs-start (suc m) k s e i l h =
-    let t = turned m k (dueAt s k) s e in
+    let t = turned m k (endBefore s k) s e in
     elim (ℕ-discrete k i) [
       | yes p ↦ rw (← p) (t .0)
-      | no p ↦ pairs-start m (k + 1) s (rw (due-next s k) (t .1)) i (omega arith) (omega arith)
+      | no p ↦ pairs-start m (k + 1) s (rw (end-next s k) (t .1)) i (omega arith) (omega arith)
     ]
 
-pairs-end : (m k n : ℕ) (s : List ℕ) → n ≡ k + m → checkPairs m k (dueAt s k) s ≡ Sound → dueAt s n ≡ length s
+pairs-end : (m k n : ℕ) (s : List ℕ) → n ≡ k + m → checkPairs m k (endBefore s k) s ≡ Sound → endBefore s n ≤ length s
 unfolding checkPairs
 pairs-end zero k n s z e =
     let same : n ≡ k = omega arith in
-    rw same (eqb-true _ _ (was-true (eqb (dueAt s k) (length s)) _ _ _ e (not-refused (BadPair (k - 1))) .0))
-pairs-end (suc m) k n s z e = pairs-end m (k + 1) n s (omega arith) (rw (due-next s k) (turned m k (dueAt s k) s e .1))
+    rw same (leb-true _ _ (was-true (leb (endBefore s k) (length s)) _ _ _ e (not-refused (BadPair (k - 1))) .0))
+pairs-end (suc m) k n s z e = pairs-end m (k + 1) n s (omega arith) (rw (end-next s k) (turned m k (endBefore s k) s e .1))
 
-pairs-good : (m k n : ℕ) (s : List ℕ) → n ≡ k + m → ((i : ℕ) → i < n → offsetOf s i ≡ dueAt s i) → dueAt s n ≡ length s → checkPairs m k (dueAt s k) s ≡ Sound
+pairs-good : (m k n : ℕ) (s : List ℕ) → n ≡ k + m → ((i : ℕ) → i < n → endBefore s i ≤ offsetOf s i) → endBefore s n ≤ length s
+    → checkPairs m k (endBefore s k) s ≡ Sound
 unfolding checkPairs
 pairs-good zero k n s z f e =
     let same : n ≡ k = omega arith in
-    rw (eq-eqb (dueAt s k) (length s) (rw same at e)) refl
-pairs-good (suc m) k n s z f e = rw (eq-eqb (offsetOf s k) (dueAt s k) (f k (omega arith)), ← due-next s k) (pairs-good m (k + 1) n s (omega arith) f e)
+    rw (le-leb (endBefore s k) (length s) (rw same at e)) refl
+pairs-good (suc m) k n s z f e = rw (le-leb (endBefore s k) (offsetOf s k) (f k (omega arith)), ← end-next s k) (pairs-good m (k + 1) n s (omega arith) f e)
 
 pub accepted : (s : List ℕ) → checkFile s ≡ Sound → Accepted s
-unfolding checkFile dueAt
+unfolding checkFile endBefore
 accepted s e =
     let a = was-false (ltb (length s) 2) _ _ _ e (not-refused FileTooShort) in
     let b = was-false (ltb 512 (countOf s)) _ _ _ (a .1) (not-refused TooManyRecords) in
@@ -93,22 +96,25 @@ accepted s e =
     }
 
 pub accepts : (s : List ℕ) → Accepted s → checkFile s ≡ Sound
-unfolding checkFile dueAt
+unfolding checkFile endBefore
 accepts s a = rw (le-ltb _ _ (a .two), le-ltb _ _ (a .many), le-ltb _ _ (a .pairs)) (pairs-good (countOf s) 0 (countOf s) s (omega arith) (a .starts) (a .end))
 
 -- ---- Where a record's part lies
 
-due-rises : (s : List ℕ) (k m : ℕ) → dueAt s k ≤ dueAt s (k + m)
-due-rises s k zero = let z : k + 0 ≡ k = omega arith in rw z (omega arith)
-due-rises s k (suc m) = let z : k + suc m ≡ k + m + 1 = omega arith in rw (z, due-next s (k + m)) (omega (arith, due-rises s k m))
+-- no part ends before one that stands before it
+ends-rise : (s : List ℕ) → Accepted s → (k m : ℕ) → k + m ≤ countOf s → endBefore s k ≤ endBefore s (k + m)
+ends-rise s a k zero h = let z : k + 0 ≡ k = omega arith in rw z (omega arith)
+ends-rise s a k (suc m) h =
+    let z : k + suc m ≡ k + m + 1 = omega arith in
+    rw (z, end-next s (k + m)) (omega (arith, ends-rise s a k m (omega arith), a .starts (k + m) (omega arith)))
 
 -- record i's part lies within the file
 pub inside : (s : List ℕ) (i : ℕ) → checkFile s ≡ Sound → i < countOf s → offsetOf s i + lengthOf s i ≤ length s
 inside s i e l =
     let a = accepted s e in
-    let r = due-rises s (i + 1) (countOf s - (i + 1)) in
+    let r = ends-rise s a (i + 1) (countOf s - (i + 1)) (omega arith) in
     let z : i + 1 + (countOf s - (i + 1)) ≡ countOf s = omega arith in
-    omega (arith, a .starts i l, a .end, due-next s i, rw z at r)
+    omega (arith, a .end, end-next s i, rw z at r)
 
 -- on a file that passed the check a record's own pair says where it stands
 pub pair-located : (s : List ℕ) (i : ℕ) → checkFile s ≡ Sound → pairPlace s i ≡ locateRecord s i
@@ -127,9 +133,31 @@ pair-located s i e =
 pub pair-there : (s : List ℕ) (i : ℕ) → checkFile s ≡ Sound → i < countOf s → pairPlace s i ≡ At (offsetOf s i) (lengthOf s i)
 pair-there s i e l = pair-located s i e ∙ rw (e, lt-ltb _ _ l) refl
 
--- .. with the length that its pair gives
+-- .. and behind the last there is none
+pub no-record : (s : List ℕ) (i : ℕ) → checkFile s ≡ Sound → countOf s ≤ i → recordAt s i ≡ []
+no-record s i e l = rw (pair-located s i e, e, le-ltb _ _ l) refl
+
+-- a record has the length that its pair gives
 pub part-length : (s : List ℕ) (i : ℕ) → checkFile s ≡ Sound → i < countOf s → length (recordAt s i) ≡ lengthOf s i
 part-length s i e l = rw (pair-there s i e l) (simp (length-take, length-drop) (omega (arith, inside s i e l)))
+
+-- K1: "Reading record i still returns only its own part"
+pub own-parts : OwnParts
+unfolding endBefore
+own-parts s e i l =
+    let a = accepted s e in
+    let at = pair-located s i e in
+    record {
+      behind = let z : 0 + i ≡ i = omega arith in let r = ends-rise s a 0 i (omega arith) in omega (arith, rw z at r, a .starts i l);
+      apart = λ j h k.
+          let z : i + 1 + (j - (i + 1)) ≡ j = omega arith in
+          let r = ends-rise s a (i + 1) (j - (i + 1)) (omega arith) in
+          omega (arith, rw z at r, end-next s i, a .starts j k);
+      inside = inside s i e l;
+      reads = sym at ∙ pair-there s i e l;
+      whole = rw at at (part-length s i e l);
+      loads = rw at refl;
+    }
 
 -- a record that is located lies within the file
 pub located : (s : List ℕ) (i o l : ℕ) → locateRecord s i ≡ At o l → o + l ≤ length s
@@ -166,46 +194,47 @@ field-last s a l = let h : length s ≤ a + 1 = omega arith in rw (List·getD-eq
 
 -- ---- The turns of `check_file`: what is left of the definition, run from the present state, is the whole
 
-pub record Inv (s : List ℕ) (n due last k : ℕ) : Type 0 where
+pub record Inv (s : List ℕ) (n end last k : ℕ) : Type 0 where
   pub fits : 2 + 4 * n ≤ length s
   pub many : n ≤ 512
   pub low : k ≤ n
-  pub bound : due ≤ 65536 * (k + 1)
+  pub bound : end ≤ 131070
   pub before : last ≡ k - 1
-  pub same : checkPairs (n - k) k due s ≡ checkFile s
+  pub same : checkPairs (n - k) k end s ≡ checkFile s
 
 -- what a field that was read is
 abbrev pub Field : List ℕ → ℕ → ℕ → Type 0
 Field s a r = (r ≡ numberAt s a 2) × (r < 65536)
 
-module _ (s : List ℕ) (n due last k : ℕ) (i : Inv s n due last k) where
-  turn : k < n → checkPairs (n - k) k due s ≡ cond (eqb (offsetOf s k) due) (checkPairs (n - (k + 1)) (k + 1) (due + lengthOf s k) s) (Refused (BadPair k))
+module _ (s : List ℕ) (n end last k : ℕ) (i : Inv s n end last k) where
+  turn : k < n
+      → checkPairs (n - k) k end s ≡ cond (leb end (offsetOf s k)) (checkPairs (n - (k + 1)) (k + 1) (offsetOf s k + lengthOf s k) s) (Refused (BadPair k))
   unfolding checkPairs
   turn l = let z : n - k ≡ suc (n - (k + 1)) = omega arith in rw z refl
 
-  pub bad : (o : ℕ) → k < n → Field s (2 + 4 * k) o → (o ≡ due → ⊥) → Refused (BadPair k) ≡ checkFile s
-  bad o l h ne = rw (← i .same, turn l, ← h .0, ne-eqb _ _ ne) refl
+  pub bad : (o : ℕ) → k < n → Field s (2 + 4 * k) o → o < end → Refused (BadPair k) ≡ checkFile s
+  bad o l h b = rw (← i .same, turn l, ← h .0, lt-leb _ _ b) refl
 
-  pub next : (o m : ℕ) → k < n → Field s (2 + 4 * k) o → (o ≡ due) → Field s (4 + 4 * k) m → Inv s n (due + m) k (k + 1)
+  pub next : (o m : ℕ) → k < n → Field s (2 + 4 * k) o → end ≤ o → Field s (4 + 4 * k) m → Inv s n (o + m) k (k + 1)
   next o m l h e g = record {
     fits = i .fits;
     many = i .many;
     low = omega arith;
-    bound = omega (arith, i .bound, g .1);
+    bound = omega (arith, h .1, g .1);
     before = omega arith;
-    same = let t = rw (← h .0, eq-eqb _ _ e) at (turn l) in rw (← i .same, t, g .0) refl;
+    same = let t = rw (← h .0, le-leb _ _ e) at (turn l) in rw (← i .same, t, g .0) refl;
   }
 
-  stop : n ≤ k → checkPairs 0 k due s ≡ checkFile s
+  stop : n ≤ k → checkPairs 0 k end s ≡ checkFile s
   stop l = let z : n - k ≡ 0 = omega arith in rw z at (i .same)
 
-  pub whole : n ≤ k → due ≡ length s → Sound ≡ checkFile s
+  pub whole : n ≤ k → end ≤ length s → Sound ≡ checkFile s
   unfolding checkPairs
-  whole l e = rw (← stop l, eq-eqb _ _ e) refl
+  whole l e = rw (← stop l, le-leb _ _ e) refl
 
-  pub wrong : n ≤ k → (due ≡ length s → ⊥) → Refused (BadPair last) ≡ checkFile s
+  pub wrong : n ≤ k → length s < end → Refused (BadPair last) ≡ checkFile s
   unfolding checkPairs
-  wrong l e = rw (← stop l, ne-eqb _ _ e, i .before) refl
+  wrong l e = rw (← stop l, lt-leb _ _ e, i .before) refl
 
 module _ (s : List ℕ) (n : ℕ) (two : 2 ≤ length s) (h : Field s 0 n) where
   pub over : 512 < n → Refused TooManyRecords ≡ checkFile s

@@ -57,7 +57,8 @@ pub fn record_count(file: &[u8]) -> usize
     field_at(file, 0)
 }
 
-// The header and the pairs, in the document's order: 2 once two bytes are there, then 1, then 3.
+// The header and the pairs, in the document's order: 2 once two bytes are there, then 1, then 3. `end` is where the table, or the part before pair k,
+// ends; there may be slack behind it.
 pub fn check_file(file: &[u8]) -> FileCheck
     ensures { λ r. ⌜ r ≡ checkFile (now (file .entry)) ⌝ }
 {
@@ -72,19 +73,19 @@ pub fn check_file(file: &[u8]) -> FileCheck
     if size < 2 + 4 * n {
         return FileCheck::Refused(Refusal::FileTooShort);
     }
-    let mut due = 2 + 4 * n;
+    let mut end = 2 + 4 * n;
     let mut last: usize = 0;
     let mut k: usize = 0;
     while k < n {
         let offset = read_u16(file, 2 + 4 * k);
-        if offset != due {
+        if offset < end {
             return FileCheck::Refused(Refusal::BadPair(k));
         }
-        due = due + read_u16(file, 4 + 4 * k);
+        end = offset + read_u16(file, 4 + 4 * k);
         last = k;
         k = k + 1;
     }
-    if due == size {
+    if end <= size {
         FileCheck::Sound
     } else {
         FileCheck::Refused(Refusal::BadPair(last))

@@ -1,5 +1,5 @@
-// Runs of the circuit file: every prefix and every change of one byte of a small good file, and the limits. Each distinct answer
-// is printed with how often it came; tools/file_answers.py prints the same from document 01 alone.
+// Runs of the circuit file: every prefix and every change of one byte of a small good file, the limits, and slack between the parts.
+// Each distinct answer is printed with how often it came; tools/file_answers.py prints the same from the documents alone.
 ghost use mathlib.Core.Path.{_≡_};
 ghost use Prim.Native.Nat.{_<_, _≤_};
 ghost use Rattle.file.specs.Pairs.{Part, locateRecord};
@@ -154,6 +154,82 @@ const GOOD: [u8; 141] = [
     0,
     0,
     0,
+];
+
+// Three records with slack before, between and behind them.
+const SLACK: [u8; 72] = [
+    3,
+    0,
+    17,
+    0,
+    14,
+    0,
+    36,
+    0,
+    17,
+    0,
+    54,
+    0,
+    14,
+    0,
+    255,
+    255,
+    255,
+    0,
+    0,
+    2,
+    1,
+    0,
+    0,
+    0,
+    0,
+    0,
+    0,
+    0,
+    0,
+    0,
+    0,
+    255,
+    255,
+    255,
+    255,
+    255,
+    0,
+    1,
+    0,
+    0,
+    0,
+    0,
+    0,
+    0,
+    0,
+    0,
+    0,
+    4,
+    0,
+    0,
+    1,
+    44,
+    1,
+    255,
+    0,
+    0,
+    0,
+    0,
+    0,
+    0,
+    0,
+    0,
+    0,
+    0,
+    0,
+    0,
+    0,
+    0,
+    255,
+    255,
+    255,
+    255,
 ];
 
 // The bytes of a record that was read.
@@ -446,6 +522,102 @@ fn print_lists() {
     print_limit(b"16 and 17", &many, 72);
 }
 
+// A file of two records in a larger array, all zeros but its header and pairs.
+fn two_parts(first: u16, first_length: u16, second: u16, second_length: u16) -> [u8; 131070] {
+    let mut file = [0u8; 131070];
+    file[0] = 2;
+    file[2] = (first % 256) as u8;
+    file[3] = (first / 256) as u8;
+    file[4] = (first_length % 256) as u8;
+    file[5] = (first_length / 256) as u8;
+    file[6] = (second % 256) as u8;
+    file[7] = (second / 256) as u8;
+    file[8] = (second_length % 256) as u8;
+    file[9] = (second_length / 256) as u8;
+    file
+}
+
+// Where the reader finds record i of a file.
+fn print_place(file: &[u8], i: usize) {
+    io::write_all(STDOUT_FILENO, b"  record ");
+    io::print_decimal(STDOUT_FILENO, i as u64);
+    io::write_all(STDOUT_FILENO, b": ");
+    let place = file::locate_record(file, i);
+    match place {
+        Place::At { offset, length } => {
+            io::print_decimal(STDOUT_FILENO, length as u64);
+            io::write_all(STDOUT_FILENO, b" bytes from ");
+            io::print_decimal(STDOUT_FILENO, offset as u64);
+            io::write_all(STDOUT_FILENO, b" on");
+        }
+        Place::Refused(r) => print_refusal(r),
+    }
+    io::write_all(STDOUT_FILENO, b"\n");
+}
+
+// The answer to the first n bytes of a file of two records, and where the reader finds them.
+fn print_two(
+    title: &[u8],
+    first: u16,
+    first_length: u16,
+    second: u16,
+    second_length: u16,
+    n: usize,
+) {
+    let bytes = two_parts(first, first_length, second, second_length);
+    let start: usize = 0;
+    if 131070 < n {
+        return;
+    }
+    print_limit(title, &bytes, n);
+    print_place(&bytes[start..n], 0);
+    print_place(&bytes[start..n], 1);
+}
+
+// K1: "the first offset is at least 2 + 4n, each later one at least the end of the previous part, and the last part ends at or before the file's end".
+fn print_slack() {
+    io::write_all(STDOUT_FILENO, b"slack\n");
+    print_two(b"none", 10, 14, 24, 14, 38);
+    print_two(b"before the first part", 11, 14, 25, 14, 39);
+    print_two(b"between the parts", 10, 14, 29, 14, 43);
+    print_two(b"behind the last part", 10, 14, 24, 14, 39);
+    print_two(b"before, between and behind", 13, 14, 32, 14, 131070);
+}
+
+// Where that is broken, and parts of length 0.
+fn print_breaches() {
+    print_two(b"the first part in the table", 9, 14, 24, 14, 38);
+    print_two(b"the second part in the first", 10, 14, 23, 14, 38);
+    print_two(b"the second part before the first", 24, 14, 10, 14, 38);
+    print_two(b"the first part past the end", 10, 200, 24, 14, 38);
+    print_two(b"the last part past the end", 10, 14, 25, 14, 38);
+    print_two(b"two parts at one offset", 10, 0, 10, 14, 24);
+    print_two(b"the second part of no byte", 10, 14, 24, 0, 24);
+    print_two(b"the second part behind the end", 10, 14, 25, 0, 24);
+}
+
+// The same about and after 65,536 bytes: where the second part ends in the file, and a first one whose end has 17 bits.
+fn print_long() {
+    print_two(b"ends at 65536 of 65549", 10, 14, 65522, 14, 65549);
+    print_two(b"ends at 65549 of 65549", 10, 14, 65535, 14, 65549);
+    print_two(b"ends at 65549 of 65548", 10, 14, 65535, 14, 65548);
+    print_two(b"ends at 131070 of 131070", 10, 14, 65535, 65535, 131070);
+    print_two(b"ends at 131070 of 131069", 10, 14, 65535, 65535, 131069);
+    print_two(b"ends at 66000, next at 464", 65000, 1000, 464, 14, 66000);
+}
+
+// Every record of the file with slack, the one after the last, and the file cut off behind and in its last part.
+fn print_slack_records() {
+    let file = SLACK;
+    print_record(&file, 0);
+    print_record(&file, 1);
+    print_record(&file, 2);
+    print_record(&file, 3);
+    print_limit(b"72 bytes of it", &file, 72);
+    print_limit(b"68 bytes of it", &file, 68);
+    print_limit(b"67 bytes of it", &file, 67);
+}
+
 fn main() {
     io::write_all(STDOUT_FILENO, b"prefixes, parsed\n");
     print_counts(count_prefixes(true, 0));
@@ -460,4 +632,8 @@ fn main() {
     print_limits();
     print_lists();
     print_records();
+    print_slack();
+    print_breaches();
+    print_long();
+    print_slack_records();
 }

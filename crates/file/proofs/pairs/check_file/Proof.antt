@@ -10,10 +10,10 @@ use Rattle.file.proofs.pairs.check_file.Statement.{statement}
 use Rattle.file.proofs.pairs.check_file.Tie as tie
 
 abbrev Inv-loop : tie.InvT-loop
-Inv-loop file size n due₀ last₀ k₀ due last k = (size ≡ length file) × Inv file n due last k
+Inv-loop file size n end₀ last₀ k₀ end last k = (size ≡ length file) × Inv file n end last k
 
 abbrev μ-loop : tie.MeasureT-loop
-μ-loop file size n due₀ last₀ k₀ due last k = n - k
+μ-loop file size n end₀ last₀ k₀ end last k = n - k
 
 returns : tie.Need-returns Inv-loop μ-loop
 unfolding checkFile
@@ -34,11 +34,11 @@ add-if3 c = search needs
 returns-3 : tie.Need-returns-3 Inv-loop μ-loop
 returns-3 c = short _ _ (c .before .before .before .if1 .left) (c .before .before .read-u16 .ensures) (c .before .if2 .left) (c .if3 .taken)
 
-mul-due : tie.Need-mul-due Inv-loop μ-loop
-mul-due c = search needs
+mul-end : tie.Need-mul-end Inv-loop μ-loop
+mul-end c = search needs
 
-add-due : tie.Need-add-due Inv-loop μ-loop
-add-due c = search needs
+add-end : tie.Need-add-end Inv-loop μ-loop
+add-end c = search needs
 
 loop-holds : tie.Need-loop-holds Inv-loop μ-loop
 loop-holds c = (refl, begin _ _ (c .before .before .before .if1 .left) (c .before .before .read-u16 .ensures) (c .before .if2 .left) (c .if3 .left))
@@ -64,8 +64,8 @@ add-read-u16-2 c = search needs
 read-u16-requires-3 : tie.Need-read-u16-requires-3 Inv-loop μ-loop
 read-u16-requires-3 c κs = search needs
 
-add-due-2 : tie.Need-add-due-2 Inv-loop μ-loop
-add-due-2 c = search needs
+add-end-2 : tie.Need-add-end-2 Inv-loop μ-loop
+add-end-2 c = search needs
 
 add-k : tie.Need-add-k Inv-loop μ-loop
 add-k c = search needs
@@ -94,8 +94,8 @@ check-file-spec =
     mul-if3
     add-if3
     returns-3
-    mul-due
-    add-due
+    mul-end
+    add-end
     loop-holds
     mul-read-u16
     add-read-u16
@@ -104,7 +104,7 @@ check-file-spec =
     mul-read-u16-2
     add-read-u16-2
     read-u16-requires-3
-    add-due-2
+    add-end-2
     add-k
     loop-less
     loop-again
