@@ -12,3 +12,4 @@ pub mod BuiltLoads
 pub mod ConversionLaws
 pub mod ReturnLaws
 pub mod BuiltCircuits
+pub mod TightLoads

@@ -7,3 +7,4 @@ pub mod Conversion
 pub mod Circuits
 pub mod CircuitRecords
 pub mod Parts
+pub mod Tight
