@@ -1,6 +1,6 @@
 //! One input held against the original and the independent reading. Every check is the same for the same records and seed.
-use crate::circuits::{file_of, parts_of, Random, Record};
-use crate::reading::{self, Graph, Refusal};
+use crate::circuits::{file_of, file_with, parts_of, Random, Record};
+use crate::reading::{self, Dump, Graph, Refusal};
 use crate::sawhekonu::{self, Answer, CircuitDag, GraphAnswer, KeptNode, NodeAnswer, Walk, NONE};
 use crate::{given, views};
 use std::collections::{BTreeMap, BTreeSet};
@@ -110,30 +110,51 @@ pub fn circuit(records: &[Record], seed: u64, counts: &mut Counts) -> Result<(),
         counts.add("graphs built by single insertions");
     }
     if parts.len() <= 512 && file.len() < 65536 {
-        let loaded = sawhekonu::load(&file);
-        match first_refusal {
-            None => {
-                same("load", loaded.answer, accepted(0))?;
-                let g = views::ours(&loaded.graph)?;
-                same("nodes, edges, maps, blocks, registers", &g.dump, &dump)?;
-                same("places and counts", &g, &reading)?;
-                counts.add("graphs loaded");
-                graph_checks(&loaded.graph, &theirs, &reading, &mut random, counts)?;
-            }
-            Some(r) => {
-                same("refused load", loaded.answer, refused(r))?;
-                same("graph of a refused load", &views::ours(&loaded.graph)?, &Graph::default())?;
-                counts.add("loads refused");
-            }
+        let loaded = load_of(&file, first_refusal, &dump, &reading)?;
+        counts.add(if first_refusal.is_none() { "graphs loaded" } else { "loads refused" });
+        if first_refusal.is_none() {
+            graph_checks(&loaded, &theirs, &reading, &mut random, counts)?;
         }
-        scheduled("schedule", &file, first_refusal.map_or(Ok(&numbers_of(&theirs, reading.size())), Err), seed)?;
+        let numbers = numbers_of(&theirs, reading.size());
+        scheduled("schedule", &file, first_refusal.map_or(Ok(&numbers), Err), seed)?;
         counts.add("files scheduled or refused");
         conversion(&file, records, counts)?;
+        if seed % 4 == 0 {
+            let loose = with_slack(&parts, seed);
+            load_of(&loose, first_refusal, &dump, &reading)?;
+            scheduled("schedule", &loose, first_refusal.map_or(Ok(&numbers), Err), seed)?;
+            conversion(&loose, records, counts)?;
+            counts.add("files with slack loaded, scheduled and converted, or refused");
+        }
     }
     if one_by_one && first_refusal.is_some() {
         graph_checks(&inserted, &theirs, &reading, &mut random, counts)?;
     }
     Ok(())
+}
+
+/// The graph of a file of these records, with slack or without, against the original and the reading; the empty one where the load is refused.
+fn load_of(file: &[u8], refusal: Option<Refusal>, dump: &Dump, reading: &Graph) -> Result<CircuitDag, String> {
+    let loaded = sawhekonu::load(file);
+    match refusal {
+        None => {
+            same("load", loaded.answer, accepted(0))?;
+            let g = views::ours(&loaded.graph)?;
+            same("nodes, edges, maps, blocks, registers", &g.dump, dump)?;
+            same("places and counts", &g, reading)?;
+        }
+        Some(r) => {
+            same("refused load", loaded.answer, refused(r))?;
+            same("graph of a refused load", &views::ours(&loaded.graph)?, &Graph::default())?;
+        }
+    }
+    Ok(loaded.graph)
+}
+
+/// The file of these parts with up to three bytes before each of them and behind the last.
+fn with_slack(parts: &[Vec<u8>], seed: u64) -> Vec<u8> {
+    let mut random = Random::new(seed ^ 0x51AC);
+    file_with(parts, &mut || (0..random.below(4)).map(|_| random.next() as u8).collect())
 }
 
 fn graph_checks(
@@ -495,7 +516,7 @@ fn located(file: &[u8], i: usize) -> Result<(), String> {
     same("the record located", part.unwrap_or_default(), &file[found.offset..found.offset + found.length])
 }
 
-/// A file with damage, in one call, in loading and in conversion, against the reading.
+/// A file with damage, every other one with slack too, in one call, in loading and in conversion, against the reading.
 pub fn damaged(records: &[Record], seed: u64, counts: &mut Counts) -> Result<(), String> {
     let mut random = Random::new(seed ^ 0xDA3A);
     let mut parts = parts_of(records);
@@ -504,7 +525,7 @@ pub fn damaged(records: &[Record], seed: u64, counts: &mut Counts) -> Result<(),
         let i = random.below(parts.len());
         damage(&mut parts[i], &mut random, 15);
     }
-    let mut file = file_of(&parts);
+    let mut file = if seed % 2 == 0 { file_of(&parts) } else { with_slack(&parts, seed) };
     if !in_record {
         damage(&mut file, &mut random, 2 + 4 * records.len());
     }

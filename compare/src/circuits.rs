@@ -69,19 +69,25 @@ impl Record {
     }
 }
 
-/// The file of these parts: count, pairs, parts.
+/// The file of these parts, without slack: count, pairs, parts.
 pub fn file_of(parts: &[Vec<u8>]) -> Vec<u8> {
-    let mut file = (parts.len() as u16).to_le_bytes().to_vec();
-    let mut offset = 2 + 4 * parts.len();
+    file_with(parts, &mut || Vec::new())
+}
+
+/// The same with what `slack` gives before each part and behind the last. An offset over 65,535 is cut off.
+pub fn file_with(parts: &[Vec<u8>], slack: &mut dyn FnMut() -> Vec<u8>) -> Vec<u8> {
+    let start = 2 + 4 * parts.len();
+    let mut pairs = (parts.len() as u16).to_le_bytes().to_vec();
+    let mut body = Vec::new();
     for part in parts {
-        file.extend((offset as u16).to_le_bytes());
-        file.extend((part.len() as u16).to_le_bytes());
-        offset += part.len();
+        body.extend(slack());
+        pairs.extend(((start + body.len()) as u16).to_le_bytes());
+        pairs.extend((part.len() as u16).to_le_bytes());
+        body.extend(part);
     }
-    for part in parts {
-        file.extend(part);
-    }
-    file
+    body.extend(slack());
+    pairs.extend(body);
+    pairs
 }
 
 pub fn parts_of(records: &[Record]) -> Vec<Vec<u8>> {

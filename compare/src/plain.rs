@@ -1,4 +1,4 @@
-//! Load and blocks on the same arrays, in plain Rust and in place, with every check of document 01 and no proof: how fast it can be.
+//! Load and blocks on the same arrays, in plain Rust and in place, with every check of document 01 and K1 and no proof: how fast it can be.
 use crate::sawhekonu::{Answer, CircuitDag, Commuting, Edges, End, Nodes, Registers, NONE};
 
 const ABSENT: u16 = 65535;
@@ -213,25 +213,25 @@ pub fn load(file: &[u8]) -> Result<CircuitDag, Answer> {
     if file.len() < 2 + 4 * n {
         return Err(refused(1, NONE));
     }
-    let mut due = 2 + 4 * n;
+    let mut end = 2 + 4 * n;
     for i in 0..n {
-        if number(file, 2 + 4 * i) != due {
+        let offset = number(file, 2 + 4 * i);
+        if offset < end {
             return Err(refused(3, i));
         }
-        due += number(file, 4 + 4 * i);
+        end = offset + number(file, 4 + 4 * i);
     }
-    if due != file.len() {
-        return Err(refused(3, n.saturating_sub(1)));
+    if end > file.len() {
+        return Err(refused(3, n - 1));
     }
     let mut dag = empty();
     let mut stamp = [ABSENT; 512];
     let (mut first_guesses, mut last_guesses) = (Guesses([0; 2048]), Guesses([0; 2048]));
     let (mut known_first, mut known_last) = (0u64, 0u64);
     let (mut some_first, mut some_last) = (false, false);
-    let mut at = 2 + 4 * n;
     for i in 0..n {
+        let at = number(file, 2 + 4 * i);
         let part = &file[at..at + number(file, 4 + 4 * i)];
-        at += part.len();
         if !keeps_rule(part) {
             return Err(refused(4, i));
         }

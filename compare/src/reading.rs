@@ -1,5 +1,5 @@
-//! An independent reading of document 01, written from the document alone, on sets and maps: what a file, an insertion, a query, a step of the walk and
-//! a conversion answer, refusals included. It decides where the original has no say.
+//! An independent reading of document 01 and K1, written from the documents alone, on sets and maps: what a file, an insertion, a query, a step of the
+//! walk and a conversion answer, refusals included. It decides where the original has no say.
 use crate::sawhekonu::CircuitDag;
 use std::collections::{BTreeMap, BTreeSet};
 
@@ -85,7 +85,7 @@ fn record(part: &[u8]) -> Option<Record> {
     Some(Record { front: end == 1, kind, form, qubits, label: half(part, 12) as u16, registers, name, length, keys })
 }
 
-/// The parts of a file whose header and pairs keep their rules.
+/// The parts of a file whose header and pairs keep their rules. There may be slack before, between and behind them.
 pub fn parts(file: &[u8]) -> Result<Vec<&[u8]>, Refusal> {
     if file.len() < 2 {
         return Err((1, None));
@@ -97,18 +97,18 @@ pub fn parts(file: &[u8]) -> Result<Vec<&[u8]>, Refusal> {
     if file.len() < 2 + 4 * n {
         return Err((1, None));
     }
-    let mut expected = 2 + 4 * n;
+    let mut end = 2 + 4 * n;
     let mut bounds = Vec::new();
     for i in 0..n {
         let (offset, length) = (half(file, 2 + 4 * i), half(file, 4 + 4 * i));
-        if offset != expected {
+        if offset < end {
             return Err((3, Some(i)));
         }
-        expected += length;
-        bounds.push((offset, expected));
+        end = offset + length;
+        bounds.push((offset, end));
     }
-    if expected != file.len() {
-        return Err((3, Some(if n == 0 { 0 } else { n - 1 })));
+    if end > file.len() {
+        return Err((3, Some(n - 1)));
     }
     Ok(bounds.iter().map(|&(a, e)| &file[a..e]).collect())
 }
