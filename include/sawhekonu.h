@@ -35,7 +35,7 @@ enum sawhekonu_refusal {
     SAWHEKONU_ACCEPTED = 0,
     SAWHEKONU_FILE_TOO_SHORT = 1,    /* under 2 bytes, or under 2 + 4n */
     SAWHEKONU_TOO_MANY_RECORDS = 2,  /* n over 512 */
-    SAWHEKONU_BAD_PAIR = 3,          /* value: the first pair that breaks its rule; 0 if n = 0, the last pair if the end is wrong */
+    SAWHEKONU_BAD_PAIR = 3,          /* value: the first pair that breaks its rule, the last pair if the end is wrong */
     SAWHEKONU_BAD_RECORD = 4,        /* value: the record; 0 on insertion */
     SAWHEKONU_TOO_MANY_NODES = 5,    /* a 513th node; value: 0 */
     SAWHEKONU_TOO_MANY_EDGES = 6,    /* over 2,048; value: the record, 0 on insertion */
@@ -139,7 +139,7 @@ typedef struct sawhekonu_node_answer {
     sawhekonu_kept_node node;
 } sawhekonu_node_answer;
 
-/* ---- the circuit file */
+/* ---- the circuit file: docs/FORMAT.md. Before, between and behind its records may stand bytes that no call reads */
 
 /* Where record i (from 0) stands in the file: its bytes are file[offset] to file[offset + length - 1]. Refused 2, 1, 3, then 8 if the file has no
  * record i, with offset and length 0. Value: 0. */
