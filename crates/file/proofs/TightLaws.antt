@@ -1,4 +1,4 @@
--- What passed the rule of the pairs without slack passes the one with it. Assumes nothing.
+-- What passed the rule of the pairs without slack passes the one with it; and both on files by their bytes. Assumes nothing.
 use mathlib.Core.Path.{_≡_, refl}
 use mathlib.Core.List.{List}
 use Prim.Native.Nat.{ℕ, zero, suc, _+_, _*_, _-_}
@@ -8,8 +8,9 @@ use lib.ListN.{length}
 use borrow.Author.Tests.{le-leb, eqb-true}
 use Rattle.file.specs.declared.Refusal.the-variants.{FileTooShort, TooManyRecords, BadPair}
 use Rattle.file.specs.declared.FileCheck.the-variants.{Sound}
-use Rattle.file.specs.Pairs.{countOf, offsetOf, lengthOf, checkPairs, checkFile}
-use Rattle.file.specs.Tight.{tightPairs, tightFile, TightPasses}
+use Rattle.file.specs.Lists.{countFrom}
+use Rattle.file.specs.Pairs.{numberAt, countOf, offsetOf, lengthOf, checkPairs, checkFile}
+use Rattle.file.specs.Tight.{tightPairs, tightFile, TightPasses, SlackCases}
 use Rattle.file.proofs.PairLaws.{was-true, was-false, not-refused}
 
 -- pair by pair
@@ -34,3 +35,23 @@ tight-passes s e =
 
 pub tight-file : TightPasses
 tight-file = record { passes = tight-passes; reads = λ s i e. rw (tight-passes s e, e) refl }
+
+-- by computing the rules
+pub slack-cases : SlackCases
+unfolding numberAt checkPairs checkFile tightPairs tightFile countFrom
+slack-cases = record {
+  none = (refl, refl);
+  before-parts = (refl, refl);
+  between = (refl, refl);
+  behind-parts = (refl, refl);
+  first-read = refl;
+  second-read = refl;
+  in-table = (refl, refl);
+  in-first = (refl, refl);
+  past-end = (refl, refl);
+  first-past-end = (refl, refl);
+  one-offset = (refl, refl);
+  no-records = (refl, refl);
+  bytes-behind = (refl, refl);
+  header = (refl, refl);
+}

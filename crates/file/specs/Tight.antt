@@ -2,11 +2,12 @@
 -- nothing.
 use mathlib.Core.Path.{_≡_}
 use mathlib.Core.Bool.{cond}
-use mathlib.Core.List.{List}
+use mathlib.Core.List.{List, [], _∷_}
 use Prim.Native.Nat.{ℕ, zero, suc, _+_, _*_, _-_, _≤_, _<_}
 use lib.Dec.{eqb}
 use lib.ListN.{length}
-use Rattle.file.specs.declared.Refusal.the-variants.{BadPair}
+use Rattle.file.specs.Lists.{countFrom}
+use Rattle.file.specs.declared.Refusal.the-variants.{TooManyRecords, BadPair}
 use Rattle.file.specs.declared.FileCheck.{FileCheck}
 use Rattle.file.specs.declared.FileCheck.the-variants.{Sound, Refused}
 use Rattle.file.specs.declared.Place.the-variants.{At}
@@ -40,3 +41,31 @@ pub record OwnPart (s : List ℕ) (i : ℕ) : Type 0 where
 -- .. of every file that passes
 abbrev pub OwnParts : Type 0
 OwnParts = (s : List ℕ) → checkFile s ≡ Sound → (i : ℕ) → i < countOf s → OwnPart s i
+
+-- ---- Both rules on files by their bytes
+
+-- a file of two parts (o, l) and (p, m), with n bytes behind the pairs, each its own offset in the file
+abbrev pub twoParts : ℕ → ℕ → ℕ → ℕ → ℕ → List ℕ
+twoParts o l p m n = 2 ∷ 0 ∷ o ∷ 0 ∷ l ∷ 0 ∷ p ∷ 0 ∷ m ∷ 0 ∷ countFrom n 10
+
+-- what today's rule says of a file, and what document 01's said
+abbrev pub Says : List ℕ → FileCheck → FileCheck → Type 0
+Says s today before = (checkFile s ≡ today) × (tightFile s ≡ before)
+
+-- K1's sentences on single files: where both rules agree, and what is accepted that was refused
+pub record SlackCases : Type 0 where
+  pub none : Says (twoParts 10 3 13 2 5) Sound Sound
+  pub before-parts : Says (twoParts 11 3 14 2 6) Sound (Refused (BadPair 0))
+  pub between : Says (twoParts 10 3 15 2 7) Sound (Refused (BadPair 1))
+  pub behind-parts : Says (twoParts 10 3 13 2 6) Sound (Refused (BadPair 1))
+  -- .. and the two parts of the file with slack between them
+  pub first-read : partOf (locateRecord (twoParts 10 3 15 2 7) 0) (twoParts 10 3 15 2 7) ≡ 10 ∷ 11 ∷ 12 ∷ []
+  pub second-read : partOf (locateRecord (twoParts 10 3 15 2 7) 1) (twoParts 10 3 15 2 7) ≡ 15 ∷ 16 ∷ []
+  pub in-table : Says (twoParts 9 3 13 2 5) (Refused (BadPair 0)) (Refused (BadPair 0))
+  pub in-first : Says (twoParts 10 3 12 2 5) (Refused (BadPair 1)) (Refused (BadPair 1))
+  pub past-end : Says (twoParts 10 3 13 3 5) (Refused (BadPair 1)) (Refused (BadPair 1))
+  pub first-past-end : Says (twoParts 10 9 13 2 5) (Refused (BadPair 1)) (Refused (BadPair 1))
+  pub one-offset : Says (twoParts 10 0 10 5 5) Sound Sound
+  pub no-records : Says (0 ∷ 0 ∷ []) Sound Sound
+  pub bytes-behind : Says (0 ∷ 0 ∷ 7 ∷ []) Sound (Refused (BadPair 0))
+  pub header : Says (1 ∷ 2 ∷ []) (Refused TooManyRecords) (Refused TooManyRecords)

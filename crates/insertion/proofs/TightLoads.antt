@@ -16,13 +16,13 @@ use Rattle.file.proofs.PairLaws.{no-record}
 use Rattle.file.proofs.TightLaws.{tight-file}
 use Rattle.graph.specs.declared.CircuitDag.{CircuitDag}
 use Rattle.graph.specs.Dag.{empty}
-use Rattle.links.specs.Links.{FarRule, ruleOf, nearAll}
+use Rattle.links.specs.Links.{FarRule, LoadingRule, ruleOf, nearAll}
 use Rattle.queries.specs.Conversion.{definitionsFirst}
 use Rattle.insertion.specs.declared.Answer.the-variants.{Node, Refused as NotInserted}
 use Rattle.insertion.specs.Limits.{insertAs}
 use Rattle.insertion.specs.Load.{notLoaded, insertRecords, loadChecked, loadBy}
 use Rattle.insertion.specs.Conversion.{broken, insertionOrder, convert, convertChecked, fromCircuit}
-use Rattle.insertion.specs.Tight.{SameLoads, SameRecords, SlackUnread}
+use Rattle.insertion.specs.Tight.{loadTight, convertTight, SameLoads, SameRecords, SlackUnread}
 
 load-sound : (rule : FarRule) (c : FileCheck) (s : List ℕ) → loadChecked rule c s .answer ≡ Done → c ≡ Sound
 load-sound rule Sound s e = refl
@@ -32,11 +32,19 @@ convert-sound : (c : FileCheck) (s : List ℕ) → convertChecked c s .answer �
 convert-sound Sound s e = refl
 convert-sound (Refused r) s e = let z : _≡_ {A = ℕ} 0 1 = cc in absurd (omega arith)
 
+same-load : (rule : LoadingRule) (s : List ℕ) → tightFile s ≡ Sound → loadBy rule s ≡ loadTight rule s
+unfolding loadBy
+same-load rule s t = rw (tight-file .passes s t, t) refl
+
+same-conversion : (s : List ℕ) → tightFile s ≡ Sound → fromCircuit s ≡ convertTight s
+unfolding fromCircuit
+same-conversion s t = rw (tight-file .passes s t, t) refl
+
 pub same-loads : SameLoads
-unfolding loadBy fromCircuit
 same-loads = record {
-  loads = λ rule s e. let t = load-sound (ruleOf rule) (tightFile s) s e in rw (tight-file .passes s t, t) refl;
-  converts = λ s e. let t = convert-sound (tightFile s) s e in rw (tight-file .passes s t, t) refl;
+  loads = λ rule s e. same-load rule s (load-sound (ruleOf rule) (tightFile s) s e);
+  converts = λ s e. same-conversion s (convert-sound (tightFile s) s e);
+  answers = λ rule s t. (same-load rule s t, same-conversion s t);
 }
 
 -- ---- Slack is not read

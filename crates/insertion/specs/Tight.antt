@@ -20,10 +20,12 @@ loadTight rule s = loadChecked (ruleOf rule) (tightFile s) s
 abbrev pub convertTight : List ℕ → Loaded
 convertTight s = convertChecked (tightFile s) s
 
--- a file that was accepted is accepted, with the same graph
+-- "Files accepted until today load to the same graph": the answer and the graph are the same; and one that passed the pairs and was refused for a
+-- record is refused as it was
 pub record SameLoads : Type 0 where
   pub loads : (rule : LoadingRule) (s : List ℕ) → loadTight rule s .answer ≡ Done → loadBy rule s ≡ loadTight rule s
   pub converts : (s : List ℕ) → convertTight s .answer ≡ Done → fromCircuit s ≡ convertTight s
+  pub answers : (rule : LoadingRule) (s : List ℕ) → tightFile s ≡ Sound → (loadBy rule s ≡ loadTight rule s) × (fromCircuit s ≡ convertTight s)
 
 -- two files that pass and have the same records, wherever these stand
 pub record SameRecords (s t : List ℕ) : Type 0 where
