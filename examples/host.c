@@ -1,6 +1,6 @@
 /* A host in C: loads a circuit file and prints its blocks, then calls every function of include/sawhekonu.h on cases whose answers follow from
- * document 01 by hand, and measures the stack that each call takes. It writes a line a call, which examples/host.stdout has, and ends in status 1
- * at the first answer that is another. From the root:
+ * document 01 and K1 by hand, and measures the stack that each call takes. It writes a line a call, which examples/host.stdout has, and ends in
+ * status 1 at the first answer that is another. From the root:
  *   rt staticlib host
  *   cc -std=c11 -Iinclude examples/host.c target/staticlib/libhost.a -pthread -o target/host && target/host examples/case2.circuit */
 #define _GNU_SOURCE
@@ -83,7 +83,7 @@ static uint16_t buffer[ROOM];
 
 static void fail(const char *what) {
     fflush(stdout);
-    fprintf(stderr, "host: %s: another answer than document 01's\n", what);
+    fprintf(stderr, "host: %s: another answer than the documents'\n", what);
     exit(1);
 }
 
@@ -399,34 +399,7 @@ static void accessors(void) {
     }
 }
 
-/* ---- refusals */
-
-static void torn_files(void) {
-    uint8_t file[64];
-    sawhekonu_dag empty = sawhekonu_new();
-    memcpy(file, case2_file, 56);
-    sawhekonu_graph_answer g = sawhekonu_load(file, 1);
-    answered("load of a byte", g.answer, SAWHEKONU_FILE_TOO_SHORT, SAWHEKONU_NONE);
-    holds("load of a byte", same_dag(&g.graph, &empty));
-    answered("locate_record in a byte", sawhekonu_locate_record(file, 1, 0).answer, SAWHEKONU_FILE_TOO_SHORT, SAWHEKONU_NONE);
-    answered("load of nothing", sawhekonu_load(NULL, 0).answer, SAWHEKONU_FILE_TOO_SHORT, SAWHEKONU_NONE);
-    answered("load of cut pairs", sawhekonu_load(file, 13).answer, SAWHEKONU_FILE_TOO_SHORT, SAWHEKONU_NONE);
-    answered("load of a cut record", sawhekonu_load(file, 55).answer, SAWHEKONU_BAD_PAIR, 2);
-    answered("from_circuit of a cut record", sawhekonu_from_circuit(file, 55).answer, SAWHEKONU_BAD_PAIR, 2);
-    answered("locate_record in a cut file", sawhekonu_locate_record(file, 55, 0).answer, SAWHEKONU_BAD_PAIR, 2);
-    file[6]--;
-    answered("load of a bad pair", sawhekonu_load(file, 56).answer, SAWHEKONU_BAD_PAIR, 1);
-    file[6]++;
-    file[30] = 3;
-    answered("load of a bad record", sawhekonu_load(file, 56).answer, SAWHEKONU_BAD_RECORD, 1);
-    file[0] = 1;
-    file[1] = 2;
-    answered("load of 513 records", sawhekonu_load(file, 56).answer, SAWHEKONU_TOO_MANY_RECORDS, SAWHEKONU_NONE);
-    answered("locate_record of 513 records", sawhekonu_locate_record(file, 56, 0).answer, SAWHEKONU_TOO_MANY_RECORDS, SAWHEKONU_NONE);
-    sawhekonu_graph_answer x = sawhekonu_insert(case2, case2_file + 14, 13);
-    answered("insert of a cut record", x.answer, SAWHEKONU_BAD_RECORD, 0);
-    holds("insert of a cut record", same_dag(&x.graph, &case2));
-}
+/* ---- files with slack */
 
 /* case 2 with five bytes before each record and behind the last: graph, conversion and schedule are those of the file without them */
 static void slack_between_records(void) {
@@ -457,6 +430,35 @@ static void slack_between_records(void) {
     g = sawhekonu_load(file, sizeof file);
     answered("load of no record and bytes behind", g.answer, 0, 0);
     holds("load of no record and bytes behind", same_dag(&g.graph, &empty));
+}
+
+/* ---- refusals */
+
+static void torn_files(void) {
+    uint8_t file[64];
+    sawhekonu_dag empty = sawhekonu_new();
+    memcpy(file, case2_file, 56);
+    sawhekonu_graph_answer g = sawhekonu_load(file, 1);
+    answered("load of a byte", g.answer, SAWHEKONU_FILE_TOO_SHORT, SAWHEKONU_NONE);
+    holds("load of a byte", same_dag(&g.graph, &empty));
+    answered("locate_record in a byte", sawhekonu_locate_record(file, 1, 0).answer, SAWHEKONU_FILE_TOO_SHORT, SAWHEKONU_NONE);
+    answered("load of nothing", sawhekonu_load(NULL, 0).answer, SAWHEKONU_FILE_TOO_SHORT, SAWHEKONU_NONE);
+    answered("load of cut pairs", sawhekonu_load(file, 13).answer, SAWHEKONU_FILE_TOO_SHORT, SAWHEKONU_NONE);
+    answered("load of a cut record", sawhekonu_load(file, 55).answer, SAWHEKONU_BAD_PAIR, 2);
+    answered("from_circuit of a cut record", sawhekonu_from_circuit(file, 55).answer, SAWHEKONU_BAD_PAIR, 2);
+    answered("locate_record in a cut file", sawhekonu_locate_record(file, 55, 0).answer, SAWHEKONU_BAD_PAIR, 2);
+    file[6]--;
+    answered("load of a bad pair", sawhekonu_load(file, 56).answer, SAWHEKONU_BAD_PAIR, 1);
+    file[6]++;
+    file[30] = 3;
+    answered("load of a bad record", sawhekonu_load(file, 56).answer, SAWHEKONU_BAD_RECORD, 1);
+    file[0] = 1;
+    file[1] = 2;
+    answered("load of 513 records", sawhekonu_load(file, 56).answer, SAWHEKONU_TOO_MANY_RECORDS, SAWHEKONU_NONE);
+    answered("locate_record of 513 records", sawhekonu_locate_record(file, 56, 0).answer, SAWHEKONU_TOO_MANY_RECORDS, SAWHEKONU_NONE);
+    sawhekonu_graph_answer x = sawhekonu_insert(case2, case2_file + 14, 13);
+    answered("insert of a cut record", x.answer, SAWHEKONU_BAD_RECORD, 0);
+    holds("insert of a cut record", same_dag(&x.graph, &case2));
 }
 
 static void refused_queries(void) {

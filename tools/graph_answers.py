@@ -201,7 +201,7 @@ def runs():
              "Bit name 1 length 2; Bit name 2 length 1; B None/All name 2; B None/Set (1,0)"]
     layers, more = gates(264, layers=True), one_edge_more()
     return ([b"", b"\0", bytes(2), bytes(3), case2] + [circuit_file(parse(c)) for c in bench]                 # the empty file, cases 1 to 7 and 10
-            + [case2[:k] for k in (13, 14, 42, 55)] + [case2 + b"\0", b"\x01\x02", bytes([0, 2])]            # torn files
+            + [case2[:k] for k in (13, 14, 42, 55)] + [case2 + b"\0", b"\x01\x02", bytes([0, 2])]            # torn files, one with slack among them
             + [case2[:29] + b"\x06" + case2[30:], circuit_file([record(), b"", record()])]                   # a refused record
             + [layers, more, definition(256), definition(257), gates(512), gates(512, 1)]                    # the limits
             + slack_files())
