@@ -8,7 +8,7 @@ A record of the notation is an end, B (back) or F (front), what it takes, and, w
   B{0,1}  F{5}  B{}          a set of qubits, 0 to 63
   B All   F All              all qubits
   B None                     no qubit
-  B{0}/Set (1,0) (1,2)       register entries (name, index), at most 16, ascending; also B None/Set .., B All/Set ..
+  B{0}/Set (1,0) (1,2)       register entries (name, index), at most 24, ascending; also B None/Set .., B All/Set ..
   B None/All name 2          every entry of the name; B None/AllQubits name 2
   Bit name 1 length 2        a definition, of Bit, Float, Usize or Complex; F Bit .. at the front
 Behind a record may stand `label 7` and, where it is no definition, `kind 5`, in either order. A semicolon between records may be left out;
@@ -51,8 +51,8 @@ def words_behind(m):
 def set_tail(m):
     """The count and the entries of a register Set."""
     keys = [(number(a, 255, "name"), number(b, 65535, "index")) for a, b in re.findall(r"\(\s*([0-9]+)\s*,\s*([0-9]+)", m["keys"])]
-    if len(keys) > 16:
-        raise CircuitError(f"'{m[0].strip()}' has {len(keys)} register entries; 16 are the most")
+    if len(keys) > 24:
+        raise CircuitError(f"'{m[0].strip()}' has {len(keys)} register entries; 24 are the most")
     for a, b in zip(keys, keys[1:]):
         if a >= b:
             raise CircuitError(f"'{m[0].strip()}': the entry ({b[0]},{b[1]}) does not ascend after ({a[0]},{a[1]})")

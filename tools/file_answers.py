@@ -1,5 +1,6 @@
 #!/usr/bin/env python3
-"""The answers that document 01's "Circuit file", with K1's rule of the pairs, gives to the files of crates/file_runs, read from the documents alone.
+"""The answers that document 01's "Circuit file", with K1's rule of the pairs and K3's longest register list, gives to the files of crates/file_runs,
+read from the documents alone.
 
 Prints what crates/file_runs/stdout must hold:  python3 tools/file_answers.py | diff - crates/file_runs/stdout
 With the argument --rust it prints the small good file and the one with slack as the arrays of crates/file_runs/src/main.rt."""
@@ -60,7 +61,7 @@ def keeps_rule(r):
     if r[2] != 2 and any(r[3:11]):
         return False
     if r[11] == 3:
-        if len(r) < 15 or r[14] > 16 or len(r) != 15 + 3 * r[14]:
+        if len(r) < 15 or r[14] > 24 or len(r) != 15 + 3 * r[14]:
             return False
         keys = [(r[15 + 3 * k], number(r, 16 + 3 * k, 2)) for k in range(r[14])]
         return all(a < b for a, b in zip(keys, keys[1:]))
@@ -144,6 +145,21 @@ def slack():
         print(f"{size} bytes of it: {text(parse_all(SLACK[:size]))}")
 
 
+def lists():
+    """Records whose count byte says c entries and that have n: at the length that fits these, and a byte off."""
+    def answer(c, n, size, keys=[(1, k) for k in range(26)]):
+        r = record(register=3, tail=bytes([c]) + entries(*keys[:n])[1:])
+        return text(parse_all(circuit_file([(r + b"\0")[:size]])))
+    print("register lists")
+    for c, n in [(0, 0), (14, 14), (15, 15), (16, 16), (17, 17), (16, 15), (16, 17), (17, 16), (17, 18),
+                 (24, 24), (25, 25), (24, 23), (24, 25), (25, 24), (25, 26)]:
+        print(f"{c} and {n}: {answer(c, n, 15 + 3 * n)}")
+    for c in (16, 17, 24, 25):
+        print(f"{c} and {c}, one byte less: {answer(c, c, 14 + 3 * c)}")
+        print(f"{c} and {c}, one byte more: {answer(c, c, 16 + 3 * c)}")
+    print(f"24 and 24, the last two the same: {answer(24, 24, 87, [(1, k) for k in range(23)] + [(1, 22)])}")
+
+
 def print_record(s, i):
     print(f"record {i}:" + "".join(f" {b}" for b in (part(s, i) if read(s, i) is None else b"")))
 
@@ -168,10 +184,7 @@ def main():
         ("65535 in the header alone", b"\xff\xff"),
     ]:
         print(f"{title}: {text(parse_all(s))}")
-    print("register lists")
-    for c, n in [(0, 0), (14, 14), (15, 15), (16, 16), (17, 17), (16, 15), (16, 17)]:
-        tail = bytes([c]) + entries(*[(1, k) for k in range(n)])[1:]
-        print(f"{c} and {n}: {text(parse_all(circuit_file([record(register=3, tail=tail)])))}")
+    lists()
     for i in range(8):
         print_record(GOOD, i)
     slack()

@@ -1,6 +1,6 @@
 #!/usr/bin/env python3
-"""What document 01, with K1's rule of the pairs, answers for the files of crates/blocks_runs, blocks_long, blocks_slack, limits and query_runs,
-computed from the documents alone.
+"""What document 01, with K1's rule of the pairs and K3's longest register list, answers for the files of crates/blocks_runs, blocks_long, blocks_slack,
+limits and query_runs, computed from the documents alone.
 
   graph_answers.py stdin | diff - crates/blocks_runs/stdin      the files, each behind its length in two bytes
   graph_answers.py stdout | diff - crates/blocks_runs/stdout    what `blocks` prints for each
@@ -13,7 +13,7 @@ computed from the documents alone.
 import sys
 
 from circuit import circuit_file, parse
-from file_answers import check, keeps_rule, number, part, record
+from file_answers import check, entries, keeps_rule, number, part, record
 
 
 class Refused(Exception):
@@ -189,6 +189,12 @@ def definition(length):
     return circuit_file([record(kind=1, register=4, tail=bytes([1]) + length.to_bytes(2, "little"))])
 
 
+def measured(length, first, c):
+    """A definition of name 1, and a list of c keys of that name from index `first` on."""
+    keys = [(1, first + k) for k in range(c)]
+    return circuit_file([part(definition(length), 0), record(register=3, tail=entries(*keys))])
+
+
 def one_edge_more():
     """33 layers of 8 have 2,048 edges; a gate behind them would have one more."""
     layers = gates(264, layers=True)
@@ -230,7 +236,13 @@ def limits():
     gate, entry = record(form=2, mask=1), record(register=3, tail=bytes([1, 2, 0, 0]))
     for title, s, v, r in [("512 at the back", gates(512), 511, gate), ("512 at the front", gates(512, 1), 511, gate),
                            ("33 layers of 8", gates(264, layers=True), 263, gate), ("a definition of 256", definition(256), 0, entry),
-                           ("a definition of 257", definition(257), 0, entry)]:
+                           ("a definition of 257", definition(257), 0, entry),
+                           ("232 entries, 24 keys", measured(232, 232, 24), 1, entry), ("233 entries, 24 keys", measured(233, 233, 24), 1, entry),
+                           ("233 entries, 24 keys, 23 new", measured(233, 232, 24), 1, entry),
+                           ("256 entries, 24 keys, none new", measured(256, 232, 24), 1, entry),
+                           ("233 entries, 25 keys", measured(233, 233, 25), 1, entry),
+                           ("a definition of 232, then 24 keys", definition(232), 0, part(measured(232, 232, 24), 1)),
+                           ("a definition of 233, then 24 keys", definition(233), 0, part(measured(233, 233, 24), 1))]:
         try:
             g = load(s)
         except Refused as x:

@@ -1,4 +1,4 @@
--- "A record", by document 01's sentences on its bytes. Assumes nothing.
+-- "A record", by the sentences of document 01 and of K3 on its bytes. Assumes nothing.
 use mathlib.Core.Bool.{Bool, true, false, cond, not, _&&_, _||_}
 use mathlib.Core.List.{List}
 use Prim.Native.Nat.{ℕ, zero, suc, _+_, _*_, _-_}
@@ -86,11 +86,11 @@ unfoldable pub ascendFrom : ℕ → ℕ → List ℕ → Bool
 ascendFrom zero k s = true
 ascendFrom (suc m) k s = entryBefore s k && ascendFrom m (k + 1) s
 
--- "a count byte c, 0 to 16": the longest register list
+-- "a count byte c, 0 to 16", K3: "Raise c from 16 to 24": the longest register list
 abbrev pub mostEntries : ℕ
-mostEntries = 16
+mostEntries = 24
 
--- "3 a count byte c, 0 to 16, then c entries .., strictly ascending by name, then index"; "The length is exact: .. 15 + 3c"
+-- "3 a count byte c, .. then c entries .., strictly ascending by name, then index"; "The length is exact: .. 15 + 3c"; K3: "stays 15 + 3c"
 unfoldable pub setRule : List ℕ → Bool
 setRule s = eqb (length s) (15 + 3 * count s) && leb (count s) mostEntries && ascendFrom (count s - 1) 0 s
 

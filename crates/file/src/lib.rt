@@ -1,5 +1,5 @@
-// The circuit file of document 01, with K1's pairs: header and pairs, the record reader, the record parser, and the
-// causes of refusal of every crate. The rules are in specs/, a file for each module.
+// The circuit file of document 01, with K1's pairs and K3's longest list: header and pairs, the record reader, the
+// record parser, and the causes of refusal of every crate. The rules are in specs/, a file for each module.
 mod pairs;
 mod records;
 mod refusals;

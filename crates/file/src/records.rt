@@ -19,7 +19,7 @@ use crate::pairs::read_u16;
 use crate::pairs::wide;
 
 // The longest register list.
-const MOST_ENTRIES: usize = 16;
+const MOST_ENTRIES: usize = 24;
 
 fn wide64(x: usize) -> u64
     ensures { λ r. ⌜ r ≡ x ⌝ }

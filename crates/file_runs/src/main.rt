@@ -403,14 +403,14 @@ fn zero_records(n: usize) -> [u8; 9237]
     file
 }
 
-// A file of one record in a larger array: count byte c, then the entries (1, 0), (1, 1), .. up to n of them, and a length that fits these.
-fn entry_list(c: u8, n: usize) -> [u8; 72]
-    requires { ⌜ n ≤ 17 ⌝ }
+// A file of one record in a larger array: its length, count byte c, then the entries (1, 0), (1, 1), .. up to n of them.
+fn entry_list(c: u8, n: usize, length: u8) -> [u8; 99]
+    requires { ⌜ n ≤ 26 ⌝ }
 {
-    let mut file = [0u8; 72];
+    let mut file = [0u8; 99];
     file[0] = 1;
     file[2] = 6;
-    file[4] = (15 + 3 * n) as u8;
+    file[4] = length;
     file[17] = 3;
     file[20] = c;
     let mut k: usize = 0;
@@ -503,23 +503,57 @@ fn print_records() {
     }
 }
 
-// Register lists about their limit: the count byte and the entries.
+// One line: a count byte, how many entries there are, what else is to say, and the answer to a record of such a length.
+fn print_list(c: u8, n: usize, length: u8, more: &[u8])
+    requires { ⌜ n ≤ 26 ⌝ }
+{
+    io::print_decimal(STDOUT_FILENO, c as u64);
+    io::write_all(STDOUT_FILENO, b" and ");
+    io::print_decimal(STDOUT_FILENO, n as u64);
+    let file = entry_list(c, n, length);
+    print_limit(more, &file, 6 + length as usize);
+}
+
+// The same at the length that fits the entries.
+fn print_fitting(c: u8, n: usize)
+    requires { ⌜ n ≤ 26 ⌝ }
+{
+    print_list(c, n, (15 + 3 * n) as u8, b"");
+}
+
+// .. and of as many entries as the count byte says, one byte off that length.
+fn print_off(c: u8)
+    requires { ⌜ c ≤ 26 ⌝ }
+{
+    print_list(c, c as usize, 14 + 3 * c, b", one byte less");
+    print_list(c, c as usize, 16 + 3 * c, b", one byte more");
+}
+
+// Register lists about their limit, and about the one that K3 raised: the count byte and the entries.
 fn print_lists() {
     io::write_all(STDOUT_FILENO, b"register lists\n");
-    let none = entry_list(0, 0);
-    print_limit(b"0 and 0", &none, 21);
-    let short = entry_list(14, 14);
-    print_limit(b"14 and 14", &short, 63);
-    let less = entry_list(15, 15);
-    print_limit(b"15 and 15", &less, 66);
-    let most = entry_list(16, 16);
-    print_limit(b"16 and 16", &most, 69);
-    let over = entry_list(17, 17);
-    print_limit(b"17 and 17", &over, 72);
-    let few = entry_list(16, 15);
-    print_limit(b"16 and 15", &few, 66);
-    let many = entry_list(16, 17);
-    print_limit(b"16 and 17", &many, 72);
+    print_fitting(0, 0);
+    print_fitting(14, 14);
+    print_fitting(15, 15);
+    print_fitting(16, 16);
+    print_fitting(17, 17);
+    print_fitting(16, 15);
+    print_fitting(16, 17);
+    print_fitting(17, 16);
+    print_fitting(17, 18);
+    print_fitting(24, 24);
+    print_fitting(25, 25);
+    print_fitting(24, 23);
+    print_fitting(24, 25);
+    print_fitting(25, 24);
+    print_fitting(25, 26);
+    print_off(16);
+    print_off(17);
+    print_off(24);
+    print_off(25);
+    let mut twice = entry_list(24, 24, 87);
+    twice[91] = 22;
+    print_limit(b"24 and 24, the last two the same", &twice, 93);
 }
 
 // A file of two records in a larger array, all zeros but its header and pairs.

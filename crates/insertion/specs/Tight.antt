@@ -12,7 +12,7 @@ use Rattle.insertion.specs.declared.Loaded.{Loaded}
 use Rattle.insertion.specs.Load.{loadChecked, loadBy}
 use Rattle.insertion.specs.Conversion.{convertChecked, fromCircuit}
 
--- the load until K1: by the rule of the pairs without slack
+-- the load by the pairs' rule until K1, without slack; the rule of a record is today's
 abbrev pub loadTight : LoadingRule → List ℕ → Loaded
 loadTight rule s = loadChecked (ruleOf rule) (tightFile s) s
 
@@ -20,8 +20,8 @@ loadTight rule s = loadChecked (ruleOf rule) (tightFile s) s
 abbrev pub convertTight : List ℕ → Loaded
 convertTight s = convertChecked (tightFile s) s
 
--- "Files accepted until today load to the same graph": the answer and the graph are the same; and one that passed the pairs and was refused for a
--- record is refused as it was
+-- "Files accepted until today load to the same graph": the answer and the graph are the same; and one that passes the pairs without slack and is
+-- refused for a record is refused alike by both
 pub record SameLoads : Type 0 where
   pub loads : (rule : LoadingRule) (s : List ℕ) → loadTight rule s .answer ≡ Done → loadBy rule s ≡ loadTight rule s
   pub converts : (s : List ℕ) → convertTight s .answer ≡ Done → fromCircuit s ≡ convertTight s

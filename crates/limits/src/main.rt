@@ -1,4 +1,5 @@
-// The limits: 512 nodes at either end and the 513th refused, 2,048 edges and one more refused, 256 register entries and one more refused.
+// The limits: 512 nodes at either end and the 513th refused, 2,048 edges and one more refused, 256 register entries and one more refused, by one key
+// and by a list of 24.
 ghost use Prim.Native.Nat.{_+_, _≤_, _<_};
 use file::Outcome;
 use file::Refusal;
@@ -157,6 +158,63 @@ fn definition(length: u16) -> [u8; 23] {
     file
 }
 
+// A file of a definition of name 1 and a list of c keys of that name, from index `first` on.
+fn measured(length: u16, first: usize, c: usize) -> [u8; 117]
+    requires { ⌜ (first ≤ 256) × (c ≤ 25) ⌝ }
+{
+    let mut file = [0u8; 117];
+    file[0] = 2;
+    file[2] = 10;
+    file[4] = 17;
+    file[6] = 27;
+    file[8] = (15 + 3 * c) as u8;
+    file[11] = 1;
+    file[21] = 4;
+    file[24] = 1;
+    file[25] = (length % 256) as u8;
+    file[26] = (length / 256) as u8;
+    file[38] = 3;
+    file[41] = c as u8;
+    let mut k: usize = 0;
+    while k < c {
+        file[42 + 3 * k] = 1;
+        file[43 + 3 * k] = ((first + k) % 256) as u8;
+        file[44 + 3 * k] = ((first + k) / 256) as u8;
+        k += 1;
+    }
+    file
+}
+
+// The outcome of such a file, and what one more record on its graph gives.
+fn print_list(title: &[u8], length: u16, first: usize, c: usize, record: &[u8])
+    requires { ⌜ (first ≤ 256) × (c ≤ 25) ⌝ }
+{
+    let file = measured(length, first, c);
+    print_load(title, &file, 42 + 3 * c, 1, record);
+}
+
+// A definition alone, and what the list of 24 keys of such a file gives in a single call on its graph.
+fn print_single(title: &[u8], length: u16, file: &[u8]) {
+    if file.len() < 114 {
+        return;
+    }
+    let defined = definition(length);
+    print_load(title, &defined, 23, 0, &file[27..114]);
+}
+
+// Lists of 24 and 25 keys at maps of 232, 233 and 256 entries: 7 goes by the keys that are new, and 4 comes before it. `entry` is another name's key.
+fn print_lists(entry: &[u8]) {
+    print_list(b"232 entries, 24 keys: ", 232, 232, 24, entry);
+    print_list(b"233 entries, 24 keys: ", 233, 233, 24, entry);
+    print_list(b"233 entries, 24 keys, 23 new: ", 233, 232, 24, entry);
+    print_list(b"256 entries, 24 keys, none new: ", 256, 232, 24, entry);
+    print_list(b"233 entries, 25 keys: ", 233, 233, 25, entry);
+    let fits = measured(232, 232, 24);
+    print_single(b"a definition of 232, then 24 keys: ", 232, &fits);
+    let over = measured(233, 233, 24);
+    print_single(b"a definition of 233, then 24 keys: ", 233, &over);
+}
+
 fn main() {
     let gate = [0u8, 0, 2, 1, 0, 0, 0, 0, 0, 0, 0, 0, 0, 0];
     let entry = [0u8, 0, 0, 0, 0, 0, 0, 0, 0, 0, 0, 3, 0, 0, 1, 2, 0, 0];
@@ -170,4 +228,5 @@ fn main() {
     print_load(b"a definition of 256: ", &most, 23, 0, &entry);
     let over = definition(257);
     print_load(b"a definition of 257: ", &over, 23, 0, &entry);
+    print_lists(&entry);
 }
