@@ -419,7 +419,7 @@ fn worst_layers(dag: &CircuitDag) -> CircuitDag {
 }
 
 /// 256 register keys, 16 a record, the largest first unless they are to ascend; then records that measure keys which stand already: one key each,
-/// or 16. Of keys that ascend along a map the check of soundness needs no table.
+/// 16 or 24. Of keys that ascend along a map the check of soundness needs no table.
 fn key_records(key: fn(usize) -> (u8, u16), ascending: bool, records: usize, each: usize) -> Vec<Record> {
     let mut keys: Vec<(u8, u16)> = (0..256).map(key).collect();
     keys.sort();
@@ -427,7 +427,8 @@ fn key_records(key: fn(usize) -> (u8, u16), ascending: bool, records: usize, eac
     (0..records)
         .map(|k| {
             let start = if ascending { k * 16 % 256 } else { 240 - k * 16 % 256 };
-            if k < 16 { list(&keys[start..start + 16]) } else { list(&keys[k * 37 / 16 % 16 * 16..][..each]) }
+            let from = (k * 37 / 16 % 16 * 16).min(256 - each);
+            if k < 16 { list(&keys[start..start + 16]) } else { list(&keys[from..][..each]) }
         })
         .collect()
 }
@@ -436,7 +437,7 @@ fn key_records(key: fn(usize) -> (u8, u16), ascending: bool, records: usize, eac
 pub fn worst_keys(turns: usize) {
     let spread: fn(usize) -> (u8, u16) = |j| ((j / 64) as u8, (j % 64) as u16);
     let one_cell: fn(usize) -> (u8, u16) = |j| ((8 * j % 256) as u8, (2048 * (j / 32) + 5) as u16);
-    let mut lines = Vec::new();
+    let (mut lines, mut longest) = (Vec::new(), Vec::new());
     for (name, key, ascending) in [("ascending", spread, true), ("a cell each", spread, false), ("one cell for all", one_cell, false)] {
         let dag = case(&key_records(key, ascending, 16, 16)).ours;
         assert!(dag.is_sound() && dag.last_registers.count == 256);
@@ -445,10 +446,13 @@ pub fn worst_keys(turns: usize) {
         let all = load_times(&case(&key_records(key, ascending, 512, 16)), turns);
         let cells = |t: &Turns| format!("{:.1} | {:.1} | {:.2}", t.median(0), t.median(1), t.ratio(0, 1));
         lines.push(format!("| {name} | {sound:.2} | {} | {} |", cells(&one), cells(&all)));
+        let most = load_times(&case(&key_records(key, ascending, 512, 24)), turns);
+        longest.push(format!("| {name} | {} | {:.1} | {:.2} |", cells(&most), most.median(2), most.ratio(1, 2)));
     }
     print_table(
         "256 register keys",
         "| keys | is_sound | load of 480 records, one key each: original | ours | original / ours | load of 512 records, 16 keys each: original | ours | original / ours |",
         &lines,
     );
+    print_table("256 register keys, then 496 records of 24 keys each", "| keys | original | ours | original / ours | plain arrays | ours / plain |", &longest);
 }

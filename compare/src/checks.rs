@@ -80,12 +80,14 @@ pub fn circuit(records: &[Record], seed: u64, counts: &mut Counts) -> Result<(),
     let mut reading = Graph::default();
     let mut theirs = original::CircuitDag::with_capacity(parts.len(), parts.len());
     let mut first_refusal = None;
+    let mut long_lists = 0;
     let mut inserted = CircuitDag::new();
     let one_by_one = parts.len() > 512 || random.one_in(16);
     for (i, part) in parts.iter().enumerate() {
         let expected = reading.insert(part, i);
         if expected.is_ok() {
             same("the node number, original and reading", given::insert(&mut theirs, part), expected.ok())?;
+            long_lists += (part[11] == 3 && part[14] > 16) as u64;
         } else if first_refusal.is_none() {
             first_refusal = expected.err();
         }
@@ -102,6 +104,9 @@ pub fn circuit(records: &[Record], seed: u64, counts: &mut Counts) -> Result<(),
             inserted = x.graph;
             counts.add("single insertions");
         }
+    }
+    if long_lists > 0 && (first_refusal.is_none() || one_by_one) {
+        *counts.0.entry("register lists of 17 to 24 entries, ours and the original's").or_default() += long_lists;
     }
     let dump = views::theirs(&theirs)?;
     same("the original and the reading", &dump, &reading.dump)?;
@@ -488,7 +493,7 @@ fn damage(bytes: &mut Vec<u8>, random: &mut Random, header: usize) {
             1 => bytes.insert(at.min(bytes.len()), random.next() as u8),
             2 if !bytes.is_empty() => drop(bytes.remove(at)),
             3 => bytes.push(random.next() as u8),
-            4 if !bytes.is_empty() => bytes[at] = [0, 1, 2, 3, 4, 5, 6, 16, 17, 255][random.below(10)],
+            4 if !bytes.is_empty() => bytes[at] = [0, 1, 2, 3, 4, 5, 6, 16, 17, 24, 25, 255][random.below(12)],
             5 if !bytes.is_empty() => bytes[at] = bytes[at].wrapping_add(if random.one_in(2) { 1 } else { 255 }),
             _ if !bytes.is_empty() => bytes[at] ^= 1 << random.below(8),
             _ => (),

@@ -61,6 +61,9 @@ pub fn main() {
     let long = Record { front: false, kind: 1, label: 0, qubits: Qubits::None, registers: Registers::Definition(0, 257) };
     let file = file_of(&parts_of(&[long]));
     show("a definition of 257", "load", format!("{} entries", given::load(&file).last_operation_involving_classical().len()), format!("{:?}", sawhekonu::load(&file).answer));
+    let list = Record { front: false, kind: 0, label: 0, qubits: Qubits::None, registers: Registers::Set((0..25).map(|i| (0, i)).collect()) };
+    let file = file_of(&parts_of(&[list]));
+    show("B None/Set, 25 entries", "load", format!("{} entries", given::load(&file).last_operation_involving_classical().len()), format!("{:?}", sawhekonu::load(&file).answer));
     let file = file_of(&parts_of(&[front(1)]));
     let mut circuit = original::Circuit::new();
     circuit.add_operation(given::operation_of(&front(1).bytes()));

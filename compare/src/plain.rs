@@ -1,4 +1,4 @@
-//! Load and blocks on the same arrays, in plain Rust and in place, with every check of document 01 and K1 and no proof: how fast it can be.
+//! Load and blocks on the same arrays, in plain Rust and in place, with every check of document 01, K1 and K3 and no proof: how fast it can be.
 use crate::sawhekonu::{Answer, CircuitDag, Commuting, Edges, End, Nodes, Registers, NONE};
 
 const ABSENT: u16 = 65535;
@@ -41,7 +41,7 @@ fn keeps_rule(part: &[u8]) -> bool {
         1 | 2 => part.len() == 15,
         4 => part.len() == 17,
         _ => {
-            if part.len() < 15 || part[14] > 16 || part.len() != 15 + 3 * part[14] as usize {
+            if part.len() < 15 || part[14] > 24 || part.len() != 15 + 3 * part[14] as usize {
                 return false;
             }
             let key = |k: usize| (part[15 + 3 * k], number(part, 16 + 3 * k));

@@ -1,5 +1,5 @@
-//! An independent reading of document 01 and K1, written from the documents alone, on sets and maps: what a file, an insertion, a query, a step of the
-//! walk and a conversion answer, refusals included. It decides where the original has no say.
+//! An independent reading of document 01, K1 and K3, written from the documents alone, on sets and maps: what a file, an insertion, a query, a step of
+//! the walk and a conversion answer, refusals included. It decides where the original has no say.
 use crate::sawhekonu::CircuitDag;
 use std::collections::{BTreeMap, BTreeSet};
 
@@ -73,7 +73,7 @@ fn record(part: &[u8]) -> Option<Record> {
     match registers {
         0 if tail.is_empty() => (),
         1 | 2 if tail.len() == 1 => name = tail[0],
-        3 if !tail.is_empty() && tail[0] <= 16 && tail.len() == 1 + 3 * tail[0] as usize => {
+        3 if !tail.is_empty() && tail[0] <= 24 && tail.len() == 1 + 3 * tail[0] as usize => {
             keys = (0..tail[0] as usize).map(|k| (tail[1 + 3 * k], half(tail, 2 + 3 * k))).collect();
             if keys.windows(2).any(|w| w[0] >= w[1]) {
                 return None;

@@ -1,6 +1,8 @@
-//! The comparison: exhaustive small circuits, random ones up to every limit, queries, steps from any state, conversions, damaged files, unsound graphs.
+//! The comparison: exhaustive small circuits, random ones up to every limit, long register lists, queries, steps from any state, conversions, damaged
+//! files, unsound graphs.
 use crate::checks::{self, Check, Counts};
 use crate::circuits::{Qubits, Random, Record, Registers};
+use std::collections::BTreeSet;
 use std::time::Instant;
 
 /// Leaves out records as long as the check still fails.
@@ -162,6 +164,70 @@ pub fn random_circuit(random: &mut Random, n: usize) -> Vec<Record> {
         .collect()
 }
 
+/// A list of so many keys.
+fn list_of(random: &mut Random, count: usize, indices: usize) -> Registers {
+    let mut keys = BTreeSet::new();
+    while keys.len() < count {
+        keys.insert((random.below(3) as u8, random.below(indices) as u16));
+    }
+    Registers::Set(keys.into_iter().collect())
+}
+
+/// A circuit of n records, most with lists of 17 to 24 entries. One circuit in ten may have lists of 25, one in four has definitions, of which some
+/// leave a map no room for a list or just enough. Of 512 records every one has a list of 24: the largest file without slack.
+fn list_circuit(random: &mut Random, n: usize) -> Vec<Record> {
+    let largest = n == 512;
+    let indices = if !largest && random.one_in(10) { 65536 } else { [9, 12, 24, 60][random.below(4)] };
+    let ends = random.below(3);
+    let defined = if !largest && random.one_in(4) { 1 + random.below(2) } else { 0 };
+    let over = random.one_in(10);
+    (0..n)
+        .map(|i| {
+            let front = ends == 1 || ends == 2 && random.one_in(2);
+            let label = i as u16;
+            if i < defined || defined > 0 && random.one_in(12) {
+                let length = [1, 8, 200, 231, 232, 233, 239, 256][random.below(8)];
+                let name = random.below(4) as u8;
+                return Record { front, kind: 1 + random.below(4) as u8, label, qubits: Qubits::None, registers: Registers::Definition(name, length) };
+            }
+            let qubits = [Qubits::None, Qubits::All, Qubits::Set(1 << random.below(3)), Qubits::Set(random.next() & 7)][random.below(4)].clone();
+            let registers = match random.below(12) {
+                _ if largest => list_of(random, 24, indices),
+                0 => random_registers(random, false),
+                1 if over => list_of(random, 25, indices),
+                _ => {
+                    let count = 17 + random.below(8);
+                    list_of(random, count, indices)
+                }
+            };
+            Record { front, kind: if random.one_in(6) { 5 } else { 0 }, label, qubits, registers }
+        })
+        .collect()
+}
+
+/// Lists of 17 to 24 entries (K3), and files and records with such lists and damage.
+fn long_lists(runner: &mut Runner, part: u64) {
+    let mut random = Random::new(24);
+    let sizes: [(usize, usize, u64); 3] = [(1, 12, 40_000), (13, 64, 2_000), (512, 512, 40)];
+    for (low, high, number) in sizes {
+        for seed in 0..number / part {
+            let n = low + random.below(high - low + 1);
+            let records = list_circuit(&mut random, n);
+            runner.check("circuits with register lists of 17 to 24 entries", checks::circuit, &records, seed);
+        }
+        runner.say(&format!("circuits of {low} to {high} records with register lists of 17 to 24 entries"), number / part);
+    }
+    let damaged: [(&str, Check); 2] = [("damaged files with such lists", checks::damaged), ("damaged records with such lists", checks::damaged_record)];
+    for (what, check) in damaged {
+        for seed in 0..40_000 / part {
+            let n = 1 + random.below(5);
+            let records = list_circuit(&mut random, n);
+            runner.check(what, check, &records, seed);
+        }
+        runner.say(what, 40_000 / part);
+    }
+}
+
 pub fn main(scale: usize) {
     let mut runner = Runner { counts: Counts::default(), started: Instant::now() };
     let depth = if scale == 0 { 3 } else { 5 };
@@ -197,6 +263,7 @@ pub fn main(scale: usize) {
         }
         runner.say(what, number / part);
     }
+    long_lists(&mut runner, part);
     println!();
     for (what, number) in &runner.counts.0 {
         println!("{what}: {number}");
