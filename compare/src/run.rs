@@ -41,6 +41,16 @@ impl Runner {
         println!("{what}: {number} ({:.0} s)", self.started.elapsed().as_secs_f64());
     }
 
+    /// So many circuits of low to high records, as `make` draws them.
+    fn draw(&mut self, what: &str, check: Check, make: fn(&mut Random, usize) -> Vec<Record>, random: &mut Random, (low, high, number): (usize, usize, u64)) {
+        for seed in 0..number {
+            let n = low + random.below(high - low + 1);
+            let records = make(random, n);
+            self.check(what, check, &records, seed);
+        }
+        self.say(&format!("{what}, {low} to {high} records"), number);
+    }
+
     /// Every list of up to `length` letters.
     fn exhaust(&mut self, what: &str, alphabet: &[Record], length: usize) {
         let mut number = 0;
@@ -208,23 +218,12 @@ fn list_circuit(random: &mut Random, n: usize) -> Vec<Record> {
 /// Lists of 17 to 24 entries (K3), and files and records with such lists and damage.
 fn long_lists(runner: &mut Runner, part: u64) {
     let mut random = Random::new(24);
-    let sizes: [(usize, usize, u64); 3] = [(1, 12, 40_000), (13, 64, 2_000), (512, 512, 40)];
-    for (low, high, number) in sizes {
-        for seed in 0..number / part {
-            let n = low + random.below(high - low + 1);
-            let records = list_circuit(&mut random, n);
-            runner.check("circuits with register lists of 17 to 24 entries", checks::circuit, &records, seed);
-        }
-        runner.say(&format!("circuits of {low} to {high} records with register lists of 17 to 24 entries"), number / part);
+    for (low, high, number) in [(1, 12, 40_000), (13, 64, 2_000), (512, 512, 40)] {
+        runner.draw("circuits with register lists of 17 to 24 entries", checks::circuit, list_circuit, &mut random, (low, high, number / part));
     }
     let damaged: [(&str, Check); 2] = [("damaged files with such lists", checks::damaged), ("damaged records with such lists", checks::damaged_record)];
     for (what, check) in damaged {
-        for seed in 0..40_000 / part {
-            let n = 1 + random.below(5);
-            let records = list_circuit(&mut random, n);
-            runner.check(what, check, &records, seed);
-        }
-        runner.say(what, 40_000 / part);
+        runner.draw(what, check, list_circuit, &mut random, (1, 5, 40_000 / part));
     }
 }
 
@@ -235,15 +234,9 @@ pub fn main(scale: usize) {
     runner.exhaust("register forms, both ends", &register_alphabet(), depth);
     runner.exhaust("qubits and registers, both ends", &mixed_alphabet(), depth - 1);
     let mut random = Random::new(7);
-    let sizes: [(usize, usize, u64); 4] = [(0, 12, 200_000), (13, 64, 12_000), (65, 256, 800), (400, 512, 200)];
     let part = if scale == 0 { 20 } else { 1 };
-    for (low, high, number) in sizes {
-        for seed in 0..number / part {
-            let n = low + random.below(high - low + 1);
-            let records = random_circuit(&mut random, n);
-            runner.check("random circuits", checks::circuit, &records, seed);
-        }
-        runner.say(&format!("random circuits of {low} to {high} records"), number / part);
+    for (low, high, number) in [(0, 12, 200_000), (13, 64, 12_000), (65, 256, 800), (400, 512, 200)] {
+        runner.draw("random circuits", checks::circuit, random_circuit, &mut random, (low, high, number / part));
     }
     for seed in 0..40 / part.min(40) {
         let records = limit_circuit(&mut random, seed as usize);
@@ -256,12 +249,7 @@ pub fn main(scale: usize) {
         ("damaged graphs", checks::damaged_graph, 200_000),
     ];
     for (what, check, number) in damaged {
-        for seed in 0..number / part {
-            let n = random.below(9);
-            let records = random_circuit(&mut random, n);
-            runner.check(what, check, &records, seed);
-        }
-        runner.say(what, number / part);
+        runner.draw(what, check, random_circuit, &mut random, (0, 8, number / part));
     }
     long_lists(&mut runner, part);
     println!();
