@@ -7,10 +7,16 @@ use mathlib.Core.List.{List, [], _∷_, _++_, map}
 use Prim.Native.Nat.{ℕ, zero, suc, _+_, _≤_, _<_}
 use native.Mathlib.Omega.{arith}
 use lib.Dec.{eqb, ltb}
-use lib.ListN.{length, getD, length-map}
+use lib.ListN.{length, getD, replicate, length-map}
 use borrow.Author.Tests.{eqb-true, ltb-true, lt-ltb}
 use Rattle.file.specs.Lists.{anyOf, allOf, keep, distinct, countFrom, upTo, markedFrom, member, members}
 use Rattle.file.proofs.BoolLaws.{bool-cases, clash-bool, not-true, not-false, bool-ext, eqb-same, and-l, and-r, and-intro, or-inl, or-inr}
+
+-- an array that holds one value
+pub all-same : {A : Type 0} (k i : ℕ) (d : A) → getD (replicate k d) i d ≡ d
+all-same zero i d = refl
+all-same (suc k) zero d = refl
+all-same (suc k) (suc i) d = all-same k i d
 
 -- ---- one entry at the front
 

@@ -21,6 +21,7 @@ use Rattle.graph.specs.declared.Registers.{Registers}
 use Rattle.graph.specs.declared.CircuitDag.{CircuitDag}
 use Rattle.graph.specs.Dag.{absent, size, node, noEnd, noRegisters, empty, placeOf}
 use Rattle.graph.specs.Soundness.{placeWithin, sound}
+use Rattle.graph.proofs.ListLaws.{all-same}
 use Rattle.file.proofs.BoolLaws.{clash-bool, or-l, or-r}
 use Rattle.graph.proofs.SoundnessLaws.{NamesFit, RegistersFit, registers-told, told-sound}
 use Rattle.insertion.specs.declared.Answer.the-variants.{Refused}
@@ -33,7 +34,7 @@ use Rattle.insertion.specs.Calls.{Call, graphAfter, built}
 use Rattle.insertion.specs.Built.{SoundBuilt}
 use Rattle.links.proofs.LinkLaws.{NamesAll, names-all, others-distinct}
 use Rattle.registers.proofs.RegisterLaws.{fits-none}
-use Rattle.insertion.proofs.SafeEnds.{all-same, Side, Joins, named-old, near-side, far-side, joins-by}
+use Rattle.insertion.proofs.SafeEnds.{Side, Joins, named-old, near-side, far-side, joins-by}
 use Rattle.insertion.proofs.SafeEdges.{between, lies, link-rises, EdgesSafe, Meets, meets-below, near-meets, far-meets, edges-more}
 use Rattle.insertion.proofs.SafeNodes.{operates, record-kind, record-operates, NodesSafe, moreNodes, operatesAt, placeAt, operates-same}
 use Rattle.insertion.proofs.SafeNodes.{operates-here, place-same, place-here, nodes-more, CommutingSafe, commuting-more, RegistersSafe}

@@ -19,18 +19,13 @@ use Rattle.graph.specs.declared.NodeIndex.{NodeIndex}
 use Rattle.graph.specs.declared.End.{End}
 use Rattle.graph.specs.Dag.{absent, present, orElse, node, atQubit}
 use Rattle.file.proofs.BoolLaws.{bool-cases, clash-bool, not-true, not-false, or-cases, eqb-same}
-use Rattle.graph.proofs.ListLaws.{any-here, any-later, any-append, any-at, at-any, all-at}
+use Rattle.graph.proofs.ListLaws.{all-same, any-here, any-later, any-append, any-at, at-any, all-at}
 use Rattle.links.specs.Links.{Linked, FarRule, source, noQubit, qubits, linkQubits, joinFar, linkSet, mapped, linkAll, linkBy}
 use Rattle.links.proofs.LinkLaws.{addPresent, linkOne, others-below, NamesAll}
 
 -- ---- one store in a list
 
 -- an array that holds its default only
-pub all-same : {A : Type 0} (k i : ℕ) (d : A) → getD (replicate k d) i d ≡ d
-all-same zero i d = refl
-all-same (suc k) zero d = refl
-all-same (suc k) (suc i) d = all-same k i d
-
 -- a mark that stands after one was taken out
 cleared : (l : List Bool) (i j : ℕ) → getD (set l i false) j false ≡ true → (j ≡ i → ⊥) × (getD l j false ≡ true)
 cleared [] i j h = absurd (clash-bool h refl)

@@ -24,7 +24,7 @@ use Rattle.insertion.specs.Insertion.{grown}
 use Rattle.insertion.specs.Limits.{insertAs, insertBy}
 use Rattle.insertion.specs.Calls.{graphAfter, final}
 use Rattle.walk.specs.Blocks.{marks, start, joined, followers, blocksFrom, blocks, numberFrom, wholeWalk}
-use Rattle.walk.specs.Guarantee.{acceptedFrom}
+use Rattle.guarantee.specs.Guarantee.{acceptedFrom}
 use Rattle.planning.specs.Chain.{chainFrom, chainOf}
 use Rattle.planning.specs.BenchTable.{B, BAll, NameSet, case2, case4, case5, case6, case10, BenchTable}
 

@@ -13,15 +13,15 @@ use Rattle.links.specs.Links.{LoadingRule}
 use Rattle.insertion.specs.Calls.{Call, allBy, finalBy}
 use Rattle.insertion.proofs.BuiltLaws.{sound-built}
 use Rattle.walk.specs.Blocks.{blocks}
-use Rattle.walk.specs.Guarantee.{Accepted, accepted, takesQubits, clash, Bytes}
+use Rattle.guarantee.specs.Guarantee.{Accepted, accepted, takesQubits, clash, Bytes}
 use Rattle.walk.proofs.Heights.{cur-zero}
 use Rattle.walk.proofs.HeightSteps.{block-pred}
 use Rattle.walk.proofs.BlockLaws.{rank, upward, first-start}
 use Rattle.walk.proofs.NumberLaws.{some-first}
-use Rattle.walk.proofs.Nets.{Net, isOp, on-op, clashes}
-use Rattle.walk.proofs.NetRuns.{clash-on}
-use Rattle.walk.proofs.AcceptedNets.{callOf, netOf, net-size, noRecord, at, Built, built}
-use Rattle.walk.proofs.RecordTakes.{takes-qubits, clash-is}
+use Rattle.guarantee.proofs.Nets.{Net, isOp, on-op, clashes}
+use Rattle.guarantee.proofs.NetRuns.{clash-on}
+use Rattle.guarantee.proofs.AcceptedNets.{callOf, netOf, net-size, noRecord, at, Built, built}
+use Rattle.guarantee.proofs.RecordTakes.{takes-qubits, clash-is}
 use Rattle.planning.specs.Chain.{chainOf}
 use Rattle.planning.specs.Chains.{Consecutive, recordOf, BuiltChain, Chains}
 use Rattle.planning.proofs.ChainLaws.{E, F, blk, chain-whole, whole-in, sound-chain}

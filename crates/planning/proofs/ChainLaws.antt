@@ -19,15 +19,14 @@ use Rattle.graph.proofs.ListLaws.{length-upTo, upTo-at}
 use Rattle.queries.proofs.BufferLaws.{keep-yes, keep-no}
 use Rattle.insertion.proofs.ConversionLaws.{keep-none}
 use Rattle.walk.specs.declared.BlockCount.the-variants.{Blocks}
-use Rattle.walk.specs.Blocks.{Walked, blocks, numberFrom, blockNumbers}
-use Rattle.walk.specs.Guarantee.{blockOfStep}
+use Rattle.walk.specs.Blocks.{Walked, blocks, numberFrom, blockNumbers, blockOfStep}
 use Rattle.walk.proofs.Bounds.{any, any-intro, any-elim, any-none, and-any, split-lt}
 use Rattle.walk.proofs.Heights.{block}
 use Rattle.walk.proofs.HeightSteps.{block-pred, least, least-has, chainFrom as leastFrom, Falls, bottom, fall, chain-length, chain-falls}
 use Rattle.walk.proofs.BlockSteps.{block-at, not-empty}
 use Rattle.walk.proofs.BlockLaws.{W, edges, firsts, rank, upward, first-start, block-told, blocks-few, before-last}
 use Rattle.walk.proofs.NumberLaws.{numberOf, Numbered, inBlock as inItsBlock, inNone, number-cases, some-first, number-block, block-low}
-use Rattle.walk.proofs.DemandLaws.{walk-done}
+use Rattle.walk.proofs.WholeLaws.{walk-done}
 use Rattle.planning.specs.Chain.{inBlock, chainFrom, chainDown, chainOf}
 use Rattle.planning.specs.Chains.{Consecutive, SoundChain}
 

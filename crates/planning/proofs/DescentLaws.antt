@@ -29,7 +29,7 @@ use Rattle.walk.proofs.HeightSteps.{block-pred, least, chainFrom as leastFrom}
 use Rattle.walk.proofs.BlockSteps.{edge-at, at-edge}
 use Rattle.walk.proofs.BlockLaws.{W, rank, upward, first-start, block-told, blocks-few}
 use Rattle.walk.proofs.NumberLaws.{some-first, block-low}
-use Rattle.walk.proofs.DemandLaws.{walk-done}
+use Rattle.walk.proofs.WholeLaws.{walk-done}
 use Rattle.walk.proofs.WholeLaws.{walk-unsound}
 use Rattle.planning.specs.Chain.{chainOf, chain}
 use Rattle.planning.specs.Descents.{InBlock, Leads, Before, Smallest, Descent, bottom, below, Descended}

@@ -10,9 +10,9 @@ use lib.Dec.{eqb}
 use borrow.Author.Tests.{eqb-true}
 use Rattle.file.proofs.BoolLaws.{bool-cases, clash-bool, and-l, or-cases}
 use Rattle.walk.proofs.Bounds.{any, any-elim, any-and}
-use Rattle.walk.proofs.Nets.{Take, nothing, every, these, on, isOp, isAll, all-on, on-op, all-op, orElse, is, is-some, present, never, Net, flip, put}
-use Rattle.walk.proofs.Nets.{put-same, put-other, source, or, far, backThese, noQubits, backEvery, backNothing, same-node, new-cases, Call, back}
-use Rattle.walk.proofs.Nets.{insert, run, empty}
+use Rattle.guarantee.proofs.Nets.{Take, nothing, every, these, on, isOp, isAll, all-on, on-op, all-op, orElse, is, is-some, present, never, Net, flip, put}
+use Rattle.guarantee.proofs.Nets.{put-same, put-other, source, or, far, backThese, noQubits, backEvery, backNothing, same-node, new-cases, Call, back}
+use Rattle.guarantee.proofs.Nets.{insert, run, empty}
 
 -- the maps name operations on their qubits, edges join two on a common qubit, the blocks hold operations
 pub record Linked (g : Net) : Type 0 where

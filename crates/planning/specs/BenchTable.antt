@@ -13,7 +13,7 @@ use Rattle.queries.specs.Conversion.{circuitOf}
 use Rattle.insertion.specs.Calls.{final}
 use Rattle.walk.specs.declared.BlockCount.the-variants.{Blocks}
 use Rattle.walk.specs.Blocks.{wholeWalk, blocks, blockNumbers}
-use Rattle.walk.specs.Guarantee.{Condition}
+use Rattle.guarantee.specs.Guarantee.{Condition}
 
 -- "numbers in braces are qubits": their mask
 abbrev pub maskOf : List ℕ → ℕ

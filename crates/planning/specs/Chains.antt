@@ -12,7 +12,7 @@ use Rattle.links.specs.Links.{LoadingRule}
 use Rattle.insertion.specs.Calls.{Call, built, allBy}
 use Rattle.walk.specs.declared.BlockCount.the-variants.{Blocks}
 use Rattle.walk.specs.Blocks.{blockNumbers, wholeWalk}
-use Rattle.walk.specs.Guarantee.{Accepted, accepted, takesQubits, clash, Bytes}
+use Rattle.guarantee.specs.Guarantee.{Accepted, accepted, takesQubits, clash, Bytes}
 use Rattle.planning.specs.Chain.{chainOf}
 
 -- each entry of a list passes with the next

@@ -27,8 +27,7 @@ use Rattle.insertion.specs.Load.{load}
 use Rattle.walk.specs.declared.ParallelBlocks.{ParallelBlocks}
 use Rattle.walk.specs.declared.BlockCount.{BlockCount}
 use Rattle.walk.specs.declared.BlockCount.the-variants.{Blocks, Refused as NotWalked}
-use Rattle.walk.specs.Blocks.{unstarted, joined, followers, blocks, Walked, wholeWalk}
-use Rattle.walk.specs.Guarantee.{stateAfter, blockOfStep}
+use Rattle.walk.specs.Blocks.{unstarted, joined, followers, blocks, Walked, wholeWalk, stateAfter, blockOfStep}
 use Rattle.walk.specs.Steps.{Iterated}
 use Rattle.walk.proofs.BlockSteps.{sound-within}
 use Rattle.walk.proofs.BlockLaws.{nth-block}

@@ -37,15 +37,15 @@ use Rattle.insertion.proofs.BuiltLaws.{sound-built}
 use Rattle.insertion.proofs.BuiltLoads.{load-inserts}
 use Rattle.walk.specs.declared.BlockCount.{BlockCount}
 use Rattle.walk.specs.declared.BlockCount.the-variants.{Blocks, Refused}
-use Rattle.walk.specs.Blocks.{Walked, wholeWalk, blocks}
-use Rattle.walk.specs.Guarantee.{Accepted, acceptedFrom, accepted, emptySet, takesQubits, takesAll, operations, Each, Orders, different, blockOfStep}
-use Rattle.walk.specs.Guarantee.{filled, Guarantee}
-use Rattle.walk.specs.Guarantee.{Condition as ListCondition}
-use Rattle.walk.proofs.AcceptedNets.{built}
+use Rattle.walk.specs.Blocks.{Walked, wholeWalk, blocks, blockOfStep}
+use Rattle.guarantee.specs.Guarantee.{Accepted, acceptedFrom, accepted, emptySet, takesQubits, takesAll, operations, Each, Orders, different}
+use Rattle.guarantee.specs.Guarantee.{filled, Guarantee}
+use Rattle.guarantee.specs.Guarantee.{Condition as ListCondition}
+use Rattle.guarantee.proofs.AcceptedNets.{built}
 use Rattle.walk.proofs.BlockSteps.{empty-not}
 use Rattle.walk.proofs.BlockLaws.{past-last}
-use Rattle.walk.proofs.DemandLaws.{walk-done, demand-3}
-use Rattle.walk.proofs.WholeLaws.{walk-short}
+use Rattle.guarantee.proofs.DemandLaws.{demand-3}
+use Rattle.walk.proofs.WholeLaws.{walk-short, walk-done}
 use Rattle.schedule.specs.Schedule.{walkLoaded, schedule, recordsOf, placedFrom, placed, pulses, Condition, blockIn, Scheduled, NotScheduled}
 
 -- ---- by the load's answer

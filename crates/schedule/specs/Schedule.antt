@@ -17,8 +17,8 @@ use Rattle.file.specs.declared.Outcome.the-variants.{Done, Refused as NotLoaded
 use Rattle.insertion.specs.declared.Loaded.{Loaded}
 use Rattle.insertion.specs.Load.{load}
 use Rattle.walk.specs.declared.BlockCount.the-variants.{Refused}
-use Rattle.walk.specs.Blocks.{Walked, wholeWalk}
-use Rattle.walk.specs.Guarantee.{Accepted, takesAll, takesQubits, emptySet, Each, Orders, different, blockOfStep}
+use Rattle.walk.specs.Blocks.{Walked, wholeWalk, blockOfStep}
+use Rattle.guarantee.specs.Guarantee.{Accepted, takesAll, takesQubits, emptySet, Each, Orders, different}
 
 -- a refused load's cause, the buffer as it was; else the whole walk of the graph
 abbrev pub walkLoaded : Loaded → List ℕ → Walked

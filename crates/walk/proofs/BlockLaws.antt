@@ -16,8 +16,7 @@ use Rattle.graph.specs.declared.CircuitDag.{CircuitDag}
 use Rattle.graph.specs.Dag.{size, placeOf, hasEdge}
 use Rattle.graph.specs.Soundness.{placeWithin, sound}
 use Rattle.file.proofs.BoolLaws.{bool-cases, clash-bool, not-true, not-false}
-use Rattle.walk.specs.Blocks.{start, blocksFrom, blocks, numberFrom}
-use Rattle.walk.specs.Guarantee.{stateAfter, blockOfStep}
+use Rattle.walk.specs.Blocks.{start, blocksFrom, blocks, numberFrom, stateAfter, blockOfStep}
 use Rattle.walk.proofs.SoundOrder.{Ordered, sound-ordered}
 use Rattle.walk.proofs.Bounds.{any, any-none}
 use Rattle.walk.proofs.Heights.{Upward, stepsFrom, Walk, none, next, after, block, height, height-low, block-height, Stop, stop, no-empty}

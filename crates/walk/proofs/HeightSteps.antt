@@ -10,9 +10,8 @@ use lib.ListN.{length}
 use borrow.Author.Tests.{ne-eqb, not-true as not-flip}
 use Rattle.file.proofs.BoolLaws.{bool-cases, clash-bool, bool-ext, and-l, and-r, and-intro, or-cases, or-inl, or-inr, flip-not}
 use Rattle.walk.proofs.Bounds.{any, any-intro, any-elim, any-and, and-any}
-use Rattle.walk.proofs.Heights.{Reach, one, more, Upward, reach, reach-sound, reach-complete, reach-up, blocks, block, done, follow, join}
+use Rattle.walk.proofs.Heights.{Reach, one, more, Upward, reach, reach-sound, reach-complete, reach-up, blocks, block, done, follow, join, reach-snoc}
 use Rattle.walk.proofs.Heights.{empty, height-low, block-height, cur-suc}
-use Rattle.walk.proofs.Nets.{reach-snoc}
 
 -- the last edge of a path
 pub last-edge : {e : ℕ → ℕ → Bool} {u v : ℕ} → Reach e u v → (w : ℕ) × (e w v ≡ true) × ((u ≡ w) ⊎ Reach e u w)

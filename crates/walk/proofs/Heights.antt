@@ -19,6 +19,10 @@ pub data Reach (edge : ℕ → ℕ → Bool) : ℕ → ℕ → Type 0 where
   one : {u v : ℕ} → edge u v ≡ true → Reach edge u v
   more : {u w v : ℕ} → edge u w ≡ true → Reach edge w v → Reach edge u v
 
+pub reach-snoc : {e : ℕ → ℕ → Bool} {u w v : ℕ} → Reach e u w → e w v ≡ true → Reach e u v
+reach-snoc (one x) y = more x (one y)
+reach-snoc (more x r) y = more x (reach-snoc r y)
+
 -- the same as a test: along at most k edges, through nodes below n
 unfoldable pub reachIn : (n : ℕ) (edge : ℕ → ℕ → Bool) → ℕ → ℕ → ℕ → Bool
 reachIn n edge zero u v = false

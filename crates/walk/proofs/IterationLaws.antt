@@ -15,11 +15,10 @@ use Rattle.graph.specs.Soundness.{sound}
 use Rattle.file.proofs.BoolLaws.{clash-bool, bool-ext, not-true, and-l, and-r, and-intro}
 use Rattle.graph.proofs.ListLaws.{members-all, member-marked}
 use Rattle.queries.proofs.BufferLaws.{keep-low}
-use Rattle.insertion.proofs.SafeEnds.{all-same}
+use Rattle.graph.proofs.ListLaws.{all-same}
 use Rattle.walk.specs.declared.ParallelBlocks.{ParallelBlocks}
 use Rattle.walk.specs.declared.NextBlock.the-variants.{Block, None}
-use Rattle.walk.specs.Blocks.{marks, start, unstarted, joined, followers, nextBlock, nextState, Stepped, steps, next, blocks, numberFrom, Walked}
-use Rattle.walk.specs.Guarantee.{stateAfter, blockOfStep}
+use Rattle.walk.specs.Blocks.{marks, start, unstarted, joined, followers, nextBlock, nextState, Stepped, steps, next, blocks, numberFrom, Walked, stateAfter, blockOfStep}
 use Rattle.walk.specs.Steps.{nextCall, entryOf, Iterated, NextIterated}
 use Rattle.walk.proofs.Bounds.{any-intro}
 use Rattle.walk.proofs.Heights.{Walk, empty, block, done, stays-busy}
@@ -27,7 +26,7 @@ use Rattle.walk.proofs.BlockSteps.{empty-not, not-empty, unstarted-is, 
 use Rattle.walk.proofs.BlockLaws.{empty-list, W, edges, firsts, rank, upward, first-start, block-number, one-block, blocks-few, before-last}
 use Rattle.walk.proofs.BlockLaws.{past-last, number-is, number-none}
 use Rattle.walk.proofs.NumberLaws.{Numbered, inBlock, inNone, number-cases}
-use Rattle.walk.proofs.DemandLaws.{walk-done, walk-entry}
+use Rattle.walk.proofs.WholeLaws.{walk-done, walk-entry}
 
 -- ---- a step on any two sets
 

@@ -1,16 +1,8 @@
 pub mod Bounds
 pub mod Heights
-pub mod Nets
-pub mod NetRuns
 pub mod HeightSteps
 pub mod SoundOrder
 pub mod BlockSteps
-pub mod CountLaws
-pub mod LinkViews
-pub mod GrownViews
-pub mod AcceptedNets
-pub mod RecordTakes
-pub mod DemandLaws
 pub mod BlockLaws
 pub mod NumberLaws
 pub mod BlockingLaws

@@ -7,19 +7,18 @@ use Prim.Native.Nat.{ℕ, zero, suc, _≤_, _<_}
 use native.Mathlib.Omega.{arith}
 use native.Mathlib.Decide.{decLt}
 use lib.Dec.{ltb}
-use lib.ListN.{length, List·getD-eq-default}
+use lib.ListN.{length, getD, drop, List·getD-eq-default, List·getD-append}
 use borrow.Author.Tests.{ltb-true, lt-ltb, le-ltb, not-true as not-flip}
 use Rattle.file.specs.Lists.{isEmpty, onto, upTo}
 use Rattle.file.specs.declared.Refusal.the-variants.{ShortBuffer, Unsound}
 use Rattle.graph.specs.declared.CircuitDag.{CircuitDag}
-use Rattle.graph.specs.Dag.{size}
+use Rattle.graph.specs.Dag.{absent, size}
 use Rattle.graph.specs.Soundness.{sound}
 use Rattle.file.proofs.BoolLaws.{bool-cases, clash-bool, not-true, not-false, and-intro, flip-not}
-use Rattle.graph.proofs.ListLaws.{upTo-ext}
+use Rattle.graph.proofs.ListLaws.{upTo-ext, upTo-at, length-upTo}
 use Rattle.graph.proofs.SoundnessLaws.{sound-told}
 use Rattle.walk.specs.declared.BlockCount.the-variants.{Blocks, Refused as NotWalked}
-use Rattle.walk.specs.Blocks.{blocks, numberFrom, wholeWalk}
-use Rattle.walk.specs.Guarantee.{blockOfStep}
+use Rattle.walk.specs.Blocks.{Walked, blocks, numberFrom, blockNumbers, wholeWalk, blockOfStep}
 use Rattle.walk.specs.Numbering.{at, following, Joined, Above, Rises, Settled, Begun, Zeroed, Counted}
 use Rattle.walk.proofs.Bounds.{any, any-elim, any-none, any-and, greatest-le, greatest-at}
 use Rattle.walk.proofs.BlockSteps.{edge-at, at-edge, not-empty, empty-not, block-at}
@@ -184,6 +183,16 @@ walk-unsound g buffer e = rw e refl
 pub walk-short : (g : CircuitDag) (buffer : List ℕ) → sound g ≡ true → length buffer < size g → record { answer = NotWalked ShortBuffer; buffer = buffer } ≡ wholeWalk g buffer
 unfolding wholeWalk
 walk-short g buffer e h = rw (e, lt-ltb _ _ h) refl
+
+module _ (g : CircuitDag) (s : sound g ≡ true) (buffer : List ℕ) where
+  pub walk-done : size g ≤ length buffer → wholeWalk g buffer ≡ record { answer = Blocks (length (blocks g)); buffer = onto (blockNumbers g) buffer }
+  unfolding wholeWalk
+  walk-done h = rw (s, le-ltb (length buffer) (size g) h) refl
+
+  pub walk-entry : size g ≤ length buffer → (v : ℕ) → v < size g → getD (wholeWalk g buffer .buffer) v absent ≡ numberFrom 0 (blocks g) v
+  walk-entry h v l = ap (λ (x : Walked). getD (x .buffer) v absent) (walk-done h)
+      ∙ List·getD-append (blockNumbers g) (drop (length (blockNumbers g)) buffer) absent v (omega (arith, length-upTo (numberFrom 0 (blocks g)) (size g)))
+      ∙ upTo-at (numberFrom 0 (blocks g)) (size g) v absent l
 
 pub walk-whole : (g : CircuitDag) (buffer : List ℕ) (s : sound g ≡ true) → size g ≤ length buffer → (num : List ℕ) (r : ℕ) (written : List ℕ)
     → ((v : ℕ) → v < size g → at num v ≡ numberFrom 0 (blocks g) v) → Counted num (size g) r → written ≡ onto (map (at num) (upTo (size g))) buffer

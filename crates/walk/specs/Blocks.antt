@@ -49,6 +49,15 @@ nextBlock g w = cond (unstarted w) (members (g .first .block)) (followers g w)
 abbrev pub nextState : CircuitDag → ParallelBlocks → ParallelBlocks
 nextState g w = record { current = marks (nextBlock g w); executed = joined (w .current) (w .executed) }
 
+-- the state after t steps from two empty sets
+unfoldable pub stateAfter : CircuitDag → ℕ → ParallelBlocks
+stateAfter g zero = start
+stateAfter g (suc t) = nextState g (stateAfter g t)
+
+-- the block of step t, counted from 0
+abbrev pub blockOfStep : CircuitDag → ℕ → List ℕ
+blockOfStep g t = nextBlock g (stateAfter g t)
+
 -- the answer, the state and the lent buffer afterwards
 pub record Stepped : Type 0 where
   pub answer : NextBlock

@@ -24,18 +24,19 @@ use Rattle.links.specs.Links.{FarRule, LoadingRule, NearAll, ruleOf}
 use Rattle.insertion.specs.declared.Answer.the-variants.{Node}
 use Rattle.insertion.specs.declared.Inserted.{Inserted}
 use Rattle.insertion.specs.Limits.{insertAs}
 use Rattle.walk.specs.declared.BlockCount.the-variants.{Blocks, Refused as NotWalked}
-use Rattle.walk.specs.Blocks.{Walked, blocks, numberFrom, blockNumbers, wholeWalk}
-use Rattle.walk.specs.Guarantee.{Accepted, accepted, takesQubits, operations, Each, Orders, different, stateAfter, blockOfStep}
-use Rattle.walk.specs.Guarantee.{entry, filled, Bytes, Guarantee, Demand3}
+use Rattle.walk.specs.Blocks.{Walked, stateAfter, blockOfStep, blocks, numberFrom}
+use Rattle.guarantee.specs.Guarantee.{Accepted, accepted, takesQubits, operations, Each, Orders, different}
+use Rattle.guarantee.specs.Guarantee.{entry, filled, Bytes, Guarantee, Demand3}
 use Rattle.walk.proofs.Bounds.{any, any-elim, any-ext, greatest, greatest-le, count}
 use Rattle.walk.proofs.Heights.{Guarantee as Guaranteed, Keeps, block, steps, number, different as differentIn}
-use Rattle.walk.proofs.Nets.{Net, isOp, clashes, Base}
-use Rattle.walk.proofs.NetRuns.{Kept, kept, net-base}
+use Rattle.guarantee.proofs.Nets.{Net, isOp, clashes, Base}
+use Rattle.guarantee.proofs.NetRuns.{Kept, kept, net-base}
 use Rattle.walk.proofs.BlockSteps.{Within, sound-within, any-list, block-at, count-at, number-in, number-out}
-use Rattle.walk.proofs.CountLaws.{count-ext, different-count}
-use Rattle.walk.proofs.AcceptedNets.{callOf, netOf, net-size, net-ranked, noRecord, at, Built, built-size, built}
-use Rattle.walk.proofs.RecordTakes.{takes-qubits, clash-is, nonempties, one-all}
+use Rattle.walk.proofs.WholeLaws.{walk-short, walk-done, walk-entry}
+use Rattle.guarantee.proofs.CountLaws.{count-ext, different-count}
+use Rattle.guarantee.proofs.AcceptedNets.{callOf, netOf, net-size, net-ranked, noRecord, at, Built, built-size, built}
+use Rattle.guarantee.proofs.RecordTakes.{takes-qubits, clash-is, nonempties, one-all}
 
 -- ---- each of a list
 
@@ -72,22 +73,6 @@ member-map f (o ∷ l) k = ⊎-elim
 map-map : (f : ℕ → ℕ) (l : List Accepted) → map f (map (λ (o : Accepted). o .node) l) ≡ map (λ (o : Accepted). f (o .node)) l
 map-map f [] = refl
 map-map f (o ∷ l) = ap (λ (t : List ℕ). f (o .node) ∷ t) (map-map f l)
-
--- ---- the walk on the final graph
-
-module _ (g : CircuitDag) (s : sound g ≡ true) (buffer : List ℕ) where
-  walk-short : length buffer < size g → wholeWalk g buffer .answer ≡ NotWalked ShortBuffer
-  unfolding wholeWalk
-  walk-short h = rw (s, lt-ltb (length buffer) (size g) h) refl
-
-  pub walk-done : size g ≤ length buffer → wholeWalk g buffer ≡ record { answer = Blocks (length (blocks g)); buffer = onto (blockNumbers g) buffer }
-  unfolding wholeWalk
-  walk-done h = rw (s, le-ltb (length buffer) (size g) h) refl
-
-  pub walk-entry : size g ≤ length buffer → (v : ℕ) → v < size g → getD (wholeWalk g buffer .buffer) v absent ≡ numberFrom 0 (blocks g) v
-  walk-entry h v l = ap (λ (x : Walked). getD (x .buffer) v absent) (walk-done h)
-      ∙ List·getD-append (blockNumbers g) (drop (length (blockNumbers g)) buffer) absent v (omega (arith, length-upTo (numberFrom 0 (blocks g)) (size g)))
-      ∙ upTo-at (numberFrom 0 (blocks g)) (size g) v absent l
 
 -- the number that an accepted record answers
 number-of : (rule : FarRule) (g : CircuitDag) (s : List ℕ) (v : NodeIndex) → insertAs rule 0 g s .answer ≡ Node v → size g ≡ v .0
@@ -267,7 +252,7 @@ module _ (rule : LoadingRule) (l : List (List ℕ)) (buffer : List ℕ) (bytes :
 -- every list of insertions on the empty graph within the condition has a walk with the whole guarantee
 pub demand-3 : Demand3
 demand-3 = record {
-  short = λ l buffer C h. walk-short (finalBy NearAll l) (sound-built (allBy NearAll l) .sound) buffer h;
+  short = λ l buffer C h. ap (λ (x : Walked). x .answer) (sym (walk-short (finalBy NearAll l) buffer (sound-built (allBy NearAll l) .sound) h));
   whole = λ l buffer C room.
       let done = accepted (allBy NearAll l) in
       let T = built NearAll l (C .bytes) in

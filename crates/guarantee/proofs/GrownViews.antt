@@ -22,8 +22,8 @@ use Rattle.insertion.specs.Insertion.{facing, placeAfter, linked, registered, c
 use Rattle.insertion.proofs.SafeNodes.{moreNodes}
 use Rattle.insertion.proofs.BuiltLaws.{Safe}
 use Rattle.insertion.proofs.SafeEdges.{appended-old, appended-new}
-use Rattle.walk.proofs.LinkViews.{Sees, Fits, takeBy, link-sees}
-use Rattle.walk.proofs.Nets.{Net, Call, flip, insert}
+use Rattle.guarantee.proofs.LinkViews.{Sees, Fits, takeBy, link-sees}
+use Rattle.guarantee.proofs.Nets.{Net, Call, flip, insert}
 
 -- ---- edges behind the old ones
 

@@ -3,7 +3,7 @@
 use mathlib.Core.Path.{_≡_}
 use mathlib.Core.Bool.{Bool, true, false, cond, not, _&&_, _||_}
 use mathlib.Core.List.{List, [], _∷_, _++_, map}
-use Prim.Native.Nat.{ℕ, _+_, _≤_, _<_, zero, suc}
+use Prim.Native.Nat.{ℕ, _+_, _≤_, _<_}
 use lib.Dec.{ltb, eqb}
 use lib.IntN.{ℤ, pos, negsuc}
 use lib.Signed.{ltZ}
@@ -18,9 +18,8 @@ use Rattle.graph.specs.Dag.{absent, empty, size}
 use Rattle.links.specs.Links.{LoadingRule, NearAll, ruleOf, qubits}
 use Rattle.insertion.specs.Limits.{insertAs, insertBy}
 use Rattle.insertion.specs.Calls.{Call, built, allBy, finalBy}
-use Rattle.walk.specs.declared.ParallelBlocks.{ParallelBlocks}
 use Rattle.walk.specs.declared.BlockCount.the-variants.{Blocks, Refused as NotWalked}
-use Rattle.walk.specs.Blocks.{start, nextBlock, nextState, wholeWalk}
+use Rattle.walk.specs.Blocks.{blockOfStep, wholeWalk}
 
 -- an accepted record, its node number, its place
 pub record Accepted : Type 0 where
@@ -90,15 +89,6 @@ Orders block ops = Each (λ a. Each (λ b. clash (a .bytes) (b .bytes) ≡ true 
 unfoldable pub different : List ℕ → List ℕ → ℕ
 different [] seen = length seen
 different (x ∷ l) seen = different l (add x seen)
-
--- the state after t steps from two empty sets
-unfoldable pub stateAfter : CircuitDag → ℕ → ParallelBlocks
-stateAfter g zero = start
-stateAfter g (suc t) = nextState g (stateAfter g t)
-
--- the block of step t, counted from 0
-abbrev pub blockOfStep : CircuitDag → ℕ → List ℕ
-blockOfStep g t = nextBlock g (stateAfter g t)
 
 -- what the whole walk wrote for node v
 abbrev pub entry : List Call → List ℕ → ℕ → ℕ

@@ -12,8 +12,8 @@ use borrow.Author.Tests.{ne-eqb}
 use Rattle.file.specs.Lists.{anyOf, member}
 use Rattle.file.proofs.BoolLaws.{bool-cases, or-inl, or-inr, eqb-same}
 use Rattle.graph.proofs.ListLaws.{any-here, any-later, any-snoc}
-use Rattle.walk.specs.Guarantee.{different}
+use Rattle.guarantee.specs.Guarantee.{different}
 use Rattle.walk.proofs.Bounds.{count, split-lt, none-count}
 
 pub count-ext : (n : ℕ) (p q : ℕ → Bool) → ((k : ℕ) → k < n → p k ≡ q k) → count n p ≡ count n q
 unfolding count

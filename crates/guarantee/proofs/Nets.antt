@@ -11,8 +11,8 @@ use native.Mathlib.Decide.{ℕ-discrete}
 use lib.Dec.{eqb, ltb}
 use borrow.Author.Tests.{eqb-true, eq-eqb, ne-eqb, ltb-true, lt-ltb, not-true as not-flip}
 use Rattle.file.proofs.BoolLaws.{bool-cases, clash-bool, not-true, not-false, and-l, and-r, and-intro, or-cases, or-inl, or-inr, flip-not, eqb-same}
 use Rattle.walk.proofs.Bounds.{any, any-intro, any-elim, any-and, and-any, none-any}
-use Rattle.walk.proofs.Heights.{Reach, one, more}
+use Rattle.walk.proofs.Heights.{Reach, one, more, reach-snoc}
 
 -- ---- what an operation takes
 
@@ -181,10 +181,6 @@ backNothing g = record {
 pub reach-mono : {e f : ℕ → ℕ → Bool} → ((a b : ℕ) → e a b ≡ true → f a b ≡ true) → {u v : ℕ} → Reach e u v → Reach f u v
 reach-mono h (one x) = one (h _ _ x)
 reach-mono h (more x r) = more (h _ _ x) (reach-mono h r)
-
-pub reach-snoc : {e : ℕ → ℕ → Bool} {u w v : ℕ} → Reach e u w → e w v ≡ true → Reach e u v
-reach-snoc (one x) y = more x (one y)
-reach-snoc (more x r) y = more x (reach-snoc r y)
 
 pub reach-flip : {e : ℕ → ℕ → Bool} {u v : ℕ} → Reach e u v → Reach (λ a b. e b a) v u
 reach-flip (one x) = one x

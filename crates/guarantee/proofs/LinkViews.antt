@@ -22,11 +22,11 @@ use Rattle.graph.proofs.ListLaws.{any-here, any-later, any-at, at-any, any-snoc
 use Rattle.links.specs.Links.{Linked, FarRule, ruleOf, source, nearAfter, noQubit, qubitsFrom, qubits, linkQubits, linkSet, mapped, linkAll, linkBy}
 use Rattle.links.proofs.QubitLaws.{qubits-ascend}
 use Rattle.links.proofs.LinkLaws.{addPresent, linkOne, ascend-distinct, steady-rule, set-entries, set-outside, farEntry}
-use Rattle.insertion.proofs.SafeEnds.{all-same}
+use Rattle.graph.proofs.ListLaws.{all-same}
 use Rattle.walk.proofs.Bounds.{any, any-intro, any-elim, any-and, and-any, any-ext, any-none, none-any}
 use Rattle.walk.proofs.BlockSteps.{any-list, not-empty, empty-not}
-use Rattle.walk.proofs.Nets.{Net, Take, nothing, every, these, is, orElse as else, present as isSome, or, source as sourceIn, far as farIn, backThese}
-use Rattle.walk.proofs.Nets.{backEvery, backNothing, back, noQubits}
+use Rattle.guarantee.proofs.Nets.{Net, Take, nothing, every, these, is, orElse as else, present as isSome, or, source as sourceIn, far as farIn, backThese}
+use Rattle.guarantee.proofs.Nets.{backEvery, backNothing, back, noQubits}
 
 -- ---- an entry that may be absent
 

@@ -29,15 +29,15 @@ use Rattle.links.specs.Links.{LoadingRule, ruleOf}
 use Rattle.insertion.specs.Insertion.{grown}
 use Rattle.insertion.specs.Limits.{refused, insertBy}
 use Rattle.insertion.specs.Calls.{Call as Insertion, graphAfter, built as builtBy, allBy, finalBy}
-use Rattle.insertion.proofs.SafeEnds.{all-same}
+use Rattle.graph.proofs.ListLaws.{all-same}
 use Rattle.insertion.proofs.SafeEdges.{between}
 use Rattle.insertion.proofs.CaseLaws.{insert-cases}
 use Rattle.insertion.proofs.BuiltLaws.{Safe, safe-sound, safe-empty, safe-insert}
-use Rattle.walk.specs.Guarantee.{Accepted, acceptedFrom, accepted, Bytes}
-use Rattle.walk.proofs.LinkViews.{takeBy}
-use Rattle.walk.proofs.GrownViews.{Seen, grownAt, grown-at, callAt, grown-seen}
-use Rattle.walk.proofs.Nets.{Net, Take, nothing, every, these, Call, flip, back, insert, run, ranks, empty as emptyNet}
-use Rattle.walk.proofs.NetRuns.{Ranked, back-before, ranked-run, run-size, empty-ranked}
+use Rattle.guarantee.specs.Guarantee.{Accepted, acceptedFrom, accepted, Bytes}
+use Rattle.guarantee.proofs.LinkViews.{takeBy}
+use Rattle.guarantee.proofs.GrownViews.{Seen, grownAt, grown-at, callAt, grown-seen}
+use Rattle.guarantee.proofs.Nets.{Net, Take, nothing, every, these, Call, flip, back, insert, run, ranks, empty as emptyNet}
+use Rattle.guarantee.proofs.NetRuns.{Ranked, back-before, ranked-run, run-size, empty-ranked}
 
 -- ---- a list with one entry more
 

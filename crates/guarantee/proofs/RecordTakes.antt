@@ -16,12 +16,12 @@ use Rattle.file.proofs.BoolLaws.{bool-cases, clash-bool, not-true, and-l, and-r
 use Rattle.graph.proofs.ListLaws.{all-at, none-at, keep-any}
 use Rattle.links.specs.Links.{qubits}
 use Rattle.links.proofs.QubitLaws.{qubits-next}
-use Rattle.walk.specs.Guarantee.{Accepted, takesAll, takesQubits, emptySet, clash}
+use Rattle.guarantee.specs.Guarantee.{Accepted, takesAll, takesQubits, emptySet, clash}
 use Rattle.walk.proofs.Bounds.{any}
-use Rattle.walk.proofs.LinkViews.{has, has-any, has-some, takeBy}
-use Rattle.walk.proofs.Nets.{isOp, isAll, clashes, NonEmpty, NonEmpties}
-use Rattle.walk.proofs.NetRuns.{BackOnly, FrontOnly, alls, Condition as NetCondition}
-use Rattle.walk.proofs.AcceptedNets.{callOf, takeOf, noRecord, at}
+use Rattle.guarantee.proofs.LinkViews.{has, has-any, has-some, takeBy}
+use Rattle.guarantee.proofs.Nets.{isOp, isAll, clashes, NonEmpty, NonEmpties}
+use Rattle.guarantee.proofs.NetRuns.{BackOnly, FrontOnly, alls, Condition as NetCondition}
+use Rattle.guarantee.proofs.AcceptedNets.{callOf, takeOf, noRecord, at}
 
 -- ---- a record's form
 

@@ -10,12 +10,12 @@ use lib.Dec.{eqb, ltb}
 use lib.ListN.{length}
 use borrow.Author.Tests.{eq-eqb, ne-eqb, lt-ltb}
 use Rattle.file.proofs.BoolLaws.{bool-cases, clash-bool, or-cases, or-inl, or-inr}
 use Rattle.walk.proofs.Bounds.{any, and-any, any-and}
 use Rattle.walk.proofs.Heights.{Guarantee, guarantee}
-use Rattle.walk.proofs.Nets.{Net, Take, nothing, every, these, on, isOp, isAll, clashes, flip, back, insert, run, ranks, empty, Call, NonEmpty}
-use Rattle.walk.proofs.Nets.{NonEmpties, Base, Last, All}
-use Rattle.walk.proofs.Nets.{all-on, on-op, opt-cases, before-cases, new-intro, same-node, empty-base, empty-last, all-flip, all-back}
-use Rattle.walk.proofs.Nets.{flip-base, base-h, last-h, e-base, e-last, n-base, n-last, n-first, n-all, all-old}
+use Rattle.guarantee.proofs.Nets.{Net, Take, nothing, every, these, on, isOp, isAll, clashes, flip, back, insert, run, ranks, empty, Call, NonEmpty}
+use Rattle.guarantee.proofs.Nets.{NonEmpties, Base, Last, All}
+use Rattle.guarantee.proofs.Nets.{all-on, on-op, opt-cases, before-cases, new-intro, same-node, empty-base, empty-last, all-flip, all-back}
+use Rattle.guarantee.proofs.Nets.{flip-base, base-h, last-h, e-base, e-last, n-base, n-last, n-first, n-all, all-old}
 
 -- ---- ranks follow the order of the circuit
 
