@@ -1,6 +1,6 @@
 #!/usr/bin/env python3
 """What document 01, with K1's rule of the pairs and K3's longest register list, answers for the files of crates/blocks_runs, blocks_long, blocks_slack,
-limits and query_runs, computed from the documents alone.
+limits, query_runs and step_runs, computed from the documents alone.
 
   graph_answers.py stdin | diff - crates/blocks_runs/stdin      the files, each behind its length in two bytes
   graph_answers.py stdout | diff - crates/blocks_runs/stdout    what `blocks` prints for each
@@ -9,6 +9,8 @@ limits and query_runs, computed from the documents alone.
   graph_answers.py limits | diff - crates/limits/stdout
   graph_answers.py query-files | diff - crates/query_runs/stdin  the same for crates/query_runs
   graph_answers.py queries | diff - crates/query_runs/stdout
+  graph_answers.py query-files | diff - crates/step_runs/stdin   and for crates/step_runs
+  graph_answers.py steps | diff - crates/step_runs/stdout
   graph_answers.py blocks < FILE                                what `blocks` prints for one circuit file"""
 import sys
 
@@ -337,31 +339,54 @@ def asked_to_schedule(s, size):
         print(f"schedule {x} |" + " 9999" * min(size, 9))
 
 
-def queries():
+def graphs():
+    """Each file with its graph, which is the empty one where it is refused, sound and not, and the number of an absent node."""
     for s in query_files():
-        print(f"file of {len(s)} bytes")
-        for size in (0, 1, 2, 512):
-            asked_to_schedule(s, size)
+        refused = None
         try:
             g = load(s)
         except Refused as x:
-            print(f"load {x}")
-            g = Graph()
-        for sound in (True, False):
-            if not sound:
-                print("not sound")
-            absent = len(g.places) if sound else 0
-            for size in (0, 1, 2, 512):
-                for v in (0, 2, absent, 65535):
-                    asked_of_node(g, sound, v, size)
-                asked_of_graph(g, sound, size)
-            state = (set(), set())
-            for t in range(5):
-                for size in (0, 512):
-                    state = asked_to_step(g, sound, state, size)
-            for v in (0, absent):
-                asked_to_step(g, sound, ({v}, set()), 512)
-            asked_of_entries(g, sound, absent)
+            refused, g = x, Graph()
+        yield s, refused, [(g, True, len(g.places)), (g, False, 0)]
+
+
+def probe(refused, found, ask):
+    """What is asked of each graph of a file, behind its load's refusal."""
+    if refused:
+        print(f"load {refused}")
+    for g, sound, absent in found:
+        if not sound:
+            print("not sound")
+        ask(g, sound, absent)
+
+
+def queries():
+    def ask(g, sound, absent):
+        for size in (0, 1, 2, 512):
+            for v in (0, 2, absent, 65535):
+                asked_of_node(g, sound, v, size)
+            asked_of_graph(g, sound, size)
+
+    for s, refused, found in graphs():
+        print(f"file of {len(s)} bytes")
+        for size in (0, 1, 2, 512):
+            asked_to_schedule(s, size)
+        probe(refused, found, ask)
+
+
+def steps():
+    def ask(g, sound, absent):
+        state = (set(), set())
+        for t in range(5):
+            for size in (0, 512):
+                state = asked_to_step(g, sound, state, size)
+        for v in (0, absent):
+            asked_to_step(g, sound, ({v}, set()), 512)
+        asked_of_entries(g, sound, absent)
+
+    for s, refused, found in graphs():
+        print(f"file of {len(s)} bytes")
+        probe(refused, found, ask)
 
 
 def main(words):
@@ -379,6 +404,8 @@ def main(words):
         sys.stdout.buffer.write(b"".join(len(s).to_bytes(2, "little") + s for s in query_files()))
     elif words == ["queries"]:
         queries()
+    elif words == ["steps"]:
+        steps()
     elif words == ["blocks"]:
         print(text(sys.stdin.buffer.read()), end="")
     else:

@@ -1,10 +1,10 @@
 use mathlib.Core.Path.{_≡_}
 use Prim.Native.Nat.{_-_, _≤_}
 use borrow.Author.Needs.{needs}
-use Rattle.query_runs.proofs.count_marks.Statement.{statement}
-use Rattle.query_runs.proofs.count_marks.Tie as tie
-use Rattle.query_runs.proofs.count_marks.Reads as reads
-use Rattle.query_runs.proofs.count_marks.Lts as lts
+use Rattle.step_runs.proofs.count_marks.Statement.{statement}
+use Rattle.step_runs.proofs.count_marks.Tie as tie
+use Rattle.step_runs.proofs.count_marks.Reads as reads
+use Rattle.step_runs.proofs.count_marks.Lts as lts
 
 abbrev Inv-loop : tie.InvT-loop
 Inv-loop marks k₀ v₀ k v = v ≤ 512

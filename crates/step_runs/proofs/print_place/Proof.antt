@@ -1,13 +1,13 @@
 use native.Mathlib.Omega.{arith}
 use Rattle.graph.proofs.PlaceLaws.{front-told, back-told}
 use borrow.Author.Needs.{needs}
-use Rattle.query_runs.proofs.print_place.Statement.{statement}
-use Rattle.query_runs.proofs.print_place.Tie as tie
-use Rattle.query_runs.proofs.print_place.Reads as reads
-use Rattle.query_runs.proofs.print_place.Lts as lts
+use Rattle.step_runs.proofs.print_place.Statement.{statement}
+use Rattle.step_runs.proofs.print_place.Tie as tie
+use Rattle.step_runs.proofs.print_place.Reads as reads
+use Rattle.step_runs.proofs.print_place.Lts as lts
 use Rattle.io.proofs.print_decimal.Reads as print-decimal-reads
-use Rattle.query_runs.proofs.print.Reads as print-reads
-use Rattle.query_runs.proofs.print_number.Reads as print-number-reads
+use Rattle.step_runs.proofs.print.Reads as print-reads
+use Rattle.step_runs.proofs.print_number.Reads as print-number-reads
 
 -- src/main.rt:157:15
 slice-aggregate-print : tie.Need-slice-aggregate-print
