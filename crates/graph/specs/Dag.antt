@@ -1,12 +1,13 @@
 -- "Insertion", the state: the graph that starts empty, and how the other rules read it. Assumes nothing.
 use mathlib.Core.Bool.{Bool, false, cond, not, _&&_, _||_}
-use mathlib.Core.List.{List, map}
-use Prim.Native.Nat.{ℕ}
+use mathlib.Core.List.{List, _++_, map}
+use Prim.Native.Nat.{ℕ, _+_}
 use lib.Dec.{eqb}
 use lib.IntN.{ℤ, pos}
-use lib.ListN.{getD, take, replicate}
-use Rattle.file.specs.Lists.{anyOf, upTo}
+use lib.ListN.{length, getD, set, take, replicate}
+use Rattle.file.specs.Lists.{anyOf, onto, upTo}
 use Rattle.graph.specs.declared.NodeIndex.{NodeIndex}
+use Rattle.graph.specs.declared.Nodes.{Nodes}
 use Rattle.graph.specs.declared.Edges.{Edges}
 use Rattle.graph.specs.declared.End.{End}
 use Rattle.graph.specs.declared.Registers.{Registers}
@@ -100,6 +101,28 @@ edgeAt es i = edge (getD (es .from) i 0) (getD (es .to) i 0)
 -- entry i of a register map
 abbrev pub entryAt : Registers → ℕ → Entry
 entryAt r i = entry (getD (r .name) i 0) (getD (r .index) i 0) (getD (r .node) i 0)
+
+-- one node more, in every column: "Node numbers run from 0 in order of insertion."
+abbrev pub appendNode : Nodes → Node → Nodes
+appendNode x n = record {
+  count = x .count + 1;
+  kind = set (x .kind) (x .count) (n .kind);
+  form = set (x .form) (x .count) (n .form);
+  label = set (x .label) (x .count) (n .label);
+  place = set (x .place) (x .count) (n .place);
+}
+
+-- a list appended at the count of an array: what stands after it stays
+abbrev pub appended : {A : Type 0} → ℕ → List A → List A → List A
+appended n new old = onto (take n old ++ new) old
+
+-- the new edges behind the old ones
+abbrev pub withEdges : Edges → List Edge → Edges
+withEdges es new = record {
+  count = es .count + length new;
+  from = appended (es .count) (map (λ (e : Edge). e .from) new) (es .from);
+  to = appended (es .count) (map (λ (e : Edge). e .to) new) (es .to);
+}
 
 -- the nodes, by their numbers
 abbrev pub nodesOf : CircuitDag → List Node

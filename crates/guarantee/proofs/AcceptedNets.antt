@@ -26,7 +26,7 @@ use Rattle.graph.proofs.ListLaws.{all-here, all-fails}
 use Rattle.insertion.specs.declared.Answer.the-variants.{Node, Refused}
 use Rattle.insertion.specs.declared.Inserted.{Inserted}
 use Rattle.links.specs.Links.{LoadingRule, ruleOf}
-use Rattle.insertion.specs.Insertion.{grown}
+use Rattle.insertion.specs.Insertion.{grownAt, grown}
 use Rattle.insertion.specs.Limits.{refused, insertBy}
 use Rattle.insertion.specs.Calls.{Call as Insertion, graphAfter, built as builtBy, allBy, finalBy}
 use Rattle.graph.proofs.ListLaws.{all-same}
@@ -35,7 +35,7 @@ use Rattle.insertion.proofs.CaseLaws.{insert-cases}
 use Rattle.insertion.proofs.BuiltLaws.{Safe, safe-sound, safe-empty, safe-insert}
 use Rattle.guarantee.specs.Guarantee.{Accepted, acceptedFrom, accepted, Bytes}
 use Rattle.guarantee.proofs.LinkViews.{takeBy}
-use Rattle.guarantee.proofs.GrownViews.{Seen, grownAt, grown-at, callAt, grown-seen}
+use Rattle.guarantee.proofs.GrownViews.{Seen, grown-at, callAt, grown-seen}
 use Rattle.guarantee.proofs.Nets.{Net, Take, nothing, every, these, Call, flip, back, insert, run, ranks, empty as emptyNet}
 use Rattle.guarantee.proofs.NetRuns.{Ranked, back-before, ranked-run, run-size, empty-ranked}
 
@@ -143,7 +143,7 @@ insert-before farAll N c u v = ⊎-elim
 abbrev pub nextPlace : Bool → CircuitDag → ℤ
 nextPlace b g = cond b (negsuc (g .fronts)) (pos (g .backs))
 
-grown-size : (farAll b : Bool) (g : CircuitDag) (s : List ℕ) → size (grownAt farAll b g s) ≡ size g + 1
+grown-size : (farAll b : Bool) (g : CircuitDag) (s : List ℕ) → size (grownAt (ruleOf farAll) b g s) ≡ size g + 1
 grown-size farAll true g s = refl
 grown-size farAll false g s = refl
 
@@ -196,16 +196,16 @@ module _ (farAll : Bool) (g : CircuitDag) (l : List Accepted) (T : Built farAll 
       neither b = rw (both b) (or-false (netOf farAll l .before u v))
 
   abbrev g′ : CircuitDag
-  g′ = grownAt farAll (front s) g s
+  g′ = grownAt (ruleOf farAll) (front s) g s
 
   net-new : netOf farAll l′ ≡ insert farAll (netOf farAll l) (callAt (front s) s)
   net-new = net-snoc farAll l o ∙ ap (λ (t : List ℕ). insert farAll (netOf farAll l) (callAt (front t) t)) is-bytes
 
-  grown-between : (b : Bool) (p : ℤ) → between (g .backs) (g .fronts) p ≡ true → between (grownAt farAll b g s .backs) (grownAt farAll b g s .fronts) p ≡ true
+  grown-between : (b : Bool) (p : ℤ) → between (g .backs) (g .fronts) p ≡ true → between (grownAt (ruleOf farAll) b g s .backs) (grownAt (ruleOf farAll) b g s .fronts) p ≡ true
   grown-between true p h = between-front (g .backs) (g .fronts) p h
   grown-between false p h = between-back (g .backs) (g .fronts) p h
 
-  new-between : (b : Bool) → between (grownAt farAll b g s .backs) (grownAt farAll b g s .fronts) (nextPlace b g) ≡ true
+  new-between : (b : Bool) → between (grownAt (ruleOf farAll) b g s .backs) (grownAt (ruleOf farAll) b g s .fronts) (nextPlace b g) ≡ true
   new-between true = lt-ltb (g .fronts) (g .fronts + 1) (omega arith)
   new-between false = lt-ltb (g .backs) (g .backs + 1) (omega arith)
 
@@ -302,11 +302,11 @@ module _ (rule : LoadingRule) where
       rest : Bytes l
       rest = sym (all-here (allOf (λ b. ltb b 256)) s l here) ∙ h
 
-      backs : (c : Bool) → cond c b (b + 1) ≡ grownAt rule c g s .backs
+      backs : (c : Bool) → cond c b (b + 1) ≡ grownAt (ruleOf rule) c g s .backs
       backs true = p
       backs false = ap (λ (k : ℕ). k + 1) p
 
-      fronts : (c : Bool) → cond c (f + 1) f ≡ grownAt rule c g s .fronts
+      fronts : (c : Bool) → cond c (f + 1) f ≡ grownAt (ruleOf rule) c g s .fronts
       fronts true = ap (λ (k : ℕ). k + 1) q
       fronts false = q
 

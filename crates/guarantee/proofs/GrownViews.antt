@@ -13,13 +13,12 @@ use Rattle.file.specs.Records.{front, kind, qubitForm, label, qubitsOf}
 use Rattle.graph.specs.declared.Edges.{Edges}
 use Rattle.graph.specs.declared.End.{End}
 use Rattle.graph.specs.declared.CircuitDag.{CircuitDag}
-use Rattle.graph.specs.Dag.{Edge, edge, size, edgeAt, sameEdge, hasEdge}
+use Rattle.graph.specs.Dag.{Edge, edge, size, edgeAt, sameEdge, hasEdge, withEdges}
 use Rattle.file.proofs.BoolLaws.{bool-cases, bool-ext, and-intro, or-cases, or-inl, or-inr}
 use Rattle.graph.proofs.ListLaws.{map-at, any-here, any-later, any-at, at-any, any-upTo, upTo-any}
-use Rattle.links.specs.Links.{LoadingRule, ruleOf, link, linkBy, withEdges}
+use Rattle.links.specs.Links.{LoadingRule, ruleOf, link, linkBy}
 use Rattle.registers.specs.Registers.{withEntries}
-use Rattle.insertion.specs.Insertion.{facing, placeAfter, linked, registered, commutes, withCommuting, grown}
-use Rattle.insertion.proofs.SafeNodes.{moreNodes}
+use Rattle.insertion.specs.Insertion.{facing, linked, grownAt, grown}
 use Rattle.insertion.proofs.BuiltLaws.{Safe}
 use Rattle.insertion.proofs.SafeEdges.{appended-old, appended-new}
 use Rattle.guarantee.proofs.LinkViews.{Sees, Fits, takeBy, link-sees}
@@ -114,21 +113,7 @@ sees-flip n E near far N S = record {
   heads = S .tails;
 }
 
--- the rule `grown`, with the end as a parameter
-abbrev pub grownAt : Bool → Bool → CircuitDag → List ℕ → CircuitDag
-grownAt farAll b g s = let h = facing b g in let x = linked (ruleOf farAll) h s in let r = registered h s in facing b (record {
-  nodes = moreNodes (h .nodes) (kind s) (qubitForm s) (label s) (placeAfter b (h .backs));
-  edges = withEdges (h .edges) (map (link b (size h)) (x .others));
-  first = x .far;
-  last = x .near;
-  «first_registers» = withEntries (h .«first_registers») (r .far);
-  «last_registers» = withEntries (h .«last_registers») (r .near);
-  commuting = withCommuting h (commutes s);
-  backs = h .backs + 1;
-  fronts = h .fronts;
-})
-
-pub grown-at : (rule : LoadingRule) (g : CircuitDag) (s : List ℕ) → grown (ruleOf rule) g s ≡ grownAt rule (front s) g s
+pub grown-at : (rule : LoadingRule) (g : CircuitDag) (s : List ℕ) → grown (ruleOf rule) g s ≡ grownAt (ruleOf rule) (front s) g s
 unfolding grown
 grown-at rule g s = refl
 
@@ -166,7 +151,7 @@ module _ (g : CircuitDag) (s : List ℕ) (G : Safe false g) (low : size g < 512)
   in-to : g .edges .count ≤ length (g .edges .to)
   in-to = omega (arith, G .edges .count, G .edges .to-size)
 
-  pub grown-seen : (farAll b : Bool) (N : Net) → Seen g N → Seen (grownAt farAll b g s) (insert farAll N (callAt b s))
+  pub grown-seen : (farAll b : Bool) (N : Net) → Seen g N → Seen (grownAt (ruleOf farAll) b g s) (insert farAll N (callAt b s))
   grown-seen farAll false N S = sees-as (size g + 1) _ _ _ _ _ (link-sees farAll (qubitsOf s) (size g) (λ a b. hasEdge g a b) (g .last) (g .first) N S fits-last)
       (λ a b. sym (edges-in (g .edges) (map (link false (size g)) (linkBy (qubitsOf s) (ruleOf farAll) (size g) (g .last) (g .first) .others)) in-from in-to a b
       ∙ ap (λ (x : Bool). hasEdge g a b || x) (links-back (size g) a b (linkBy (qubitsOf s) (ruleOf farAll) (size g) (g .last) (g .first) .others))))

@@ -25,9 +25,9 @@ use Rattle.graph.proofs.ListLaws.{all-same}
 use Rattle.file.proofs.BoolLaws.{clash-bool, or-l, or-r}
 use Rattle.graph.proofs.SoundnessLaws.{NamesFit, RegistersFit, registers-told, told-sound}
 use Rattle.insertion.specs.declared.Answer.the-variants.{Refused}
-use Rattle.links.specs.Links.{Linked, FarRule, LoadingRule, ruleOf, link, withEdges}
+use Rattle.links.specs.Links.{Linked, FarRule, LoadingRule, ruleOf, link}
 use Rattle.registers.specs.Registers.{withEntries}
-use Rattle.insertion.specs.Insertion.{facing, placeAfter, linked, registered, commutes, withCommuting, grown}
+use Rattle.insertion.specs.Insertion.{facing, placeAfter, linked, registered, commutes, withCommuting, extended, grown}
 use Rattle.registers.specs.Registers.{Maps}
 use Rattle.insertion.specs.Limits.{insertAs, insertBy}
 use Rattle.insertion.specs.Calls.{Call, graphAfter, built}
@@ -36,7 +36,7 @@ use Rattle.links.proofs.LinkLaws.{NamesAll, names-all, others-distinct}
 use Rattle.registers.proofs.RegisterLaws.{fits-none}
 use Rattle.insertion.proofs.SafeEnds.{Side, Joins, named-old, near-side, far-side, joins-by}
 use Rattle.insertion.proofs.SafeEdges.{between, lies, link-rises, EdgesSafe, Meets, meets-below, near-meets, far-meets, edges-more}
-use Rattle.insertion.proofs.SafeNodes.{operates, record-kind, record-operates, NodesSafe, moreNodes, operatesAt, placeAt, operates-same}
+use Rattle.insertion.proofs.SafeNodes.{operates, record-kind, record-operates, NodesSafe, operatesAt, placeAt, operates-same}
 use Rattle.insertion.proofs.SafeNodes.{operates-here, place-same, place-here, nodes-more, CommutingSafe, commuting-more, RegistersSafe}
 use Rattle.insertion.proofs.SafeNodes.{registers-more}
 
@@ -185,20 +185,6 @@ safe-empty = record {
 
 -- ---- one record more
 
--- the rule `extended`, with the end as a parameter
-abbrev extendedAt : Bool → CircuitDag → List ℕ → Linked → Maps → CircuitDag
-extendedAt b h s x r = record {
-  nodes = moreNodes (h .nodes) (kind s) (qubitForm s) (label s) (placeAfter b (h .backs));
-  edges = withEdges (h .edges) (map (link b (size h)) (x .others));
-  first = x .far;
-  last = x .near;
-  «first_registers» = withEntries (h .«first_registers») (r .far);
-  «last_registers» = withEntries (h .«last_registers») (r .near);
-  commuting = withCommuting h (commutes s);
-  backs = h .backs + 1;
-  fronts = h .fronts;
-}
-
 -- the record s keeps its rule and nothing passes its limit
 record Accepted (rule : FarRule) (h : CircuitDag) (s : List ℕ) : Type 0 where
   keeps : recordRule s ≡ true
@@ -215,7 +201,7 @@ module _ (rule : FarRule) (names : NamesAll rule) (b : Bool) (h : CircuitDag) (s
   x = linked rule h s
 
   abbrev h′ : CircuitDag
-  h′ = extendedAt b h s x (registered h s)
+  h′ = extended b h s x (registered h s)
 
   abbrev op : ℕ → Bool
   op = operatesAt (h .nodes)
@@ -277,7 +263,7 @@ safe-grown : (rule : FarRule) → NamesAll rule → (g : CircuitDag) (s : List �
 unfolding grown
 safe-grown rule names g s G A =
     let h = facing (front s) g in
-    turned-back (front s) (extendedAt (front s) h s (linked rule h s) (registered h s)) (safe-extended rule names (front s) h s (turned (front s) g G) A)
+    turned-back (front s) (extended (front s) h s (linked rule h s) (registered h s)) (safe-extended rule names (front s) h s (turned (front s) g G) A)
 
 -- ---- an insertion, and a list of them
 

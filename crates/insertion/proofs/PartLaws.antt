@@ -20,11 +20,11 @@ use Rattle.file.proofs.RecordLaws.{checked-at}
 use Rattle.file.specs.declared.Refusal.{Refusal}
 use Rattle.file.specs.declared.Refusal.the-variants.{TooManyNodes, TooManyEdges, TooManyRegisters}
 use Rattle.graph.specs.declared.CircuitDag.{CircuitDag}
-use Rattle.graph.specs.Dag.{size}
+use Rattle.graph.specs.Dag.{size, withEdges}
 use Rattle.file.specs.declared.Outcome.{Outcome}
 use Rattle.file.specs.declared.Outcome.the-variants.{Done, Refused}
 use Rattle.links.specs.declared.LinkedRecords.{LinkedRecords}
-use Rattle.links.specs.Links.{FarRule, link, linkAt, withEdges}
+use Rattle.links.specs.Links.{FarRule, link, linkAt}
 use Rattle.links.specs.Linking.{linksFrom, linksStopped, linkRecord, linkRecords}
 use Rattle.links.proofs.LinkingLaws.{links-between}
 use Rattle.links.proofs.QubitLaws.{all-first, all-rest}

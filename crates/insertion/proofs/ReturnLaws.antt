@@ -20,7 +20,7 @@ use Rattle.file.specs.declared.FileCheck.{FileCheck}
 use Rattle.file.specs.declared.FileCheck.the-variants.{Sound, Refused as BadFile}
 use Rattle.graph.specs.declared.CircuitDag.{CircuitDag}
 use Rattle.graph.specs.declared.Nodes.{Nodes}
-use Rattle.graph.specs.Dag.{empty, size, nodeAt, placeOf, node}
+use Rattle.graph.specs.Dag.{empty, size, appendNode, nodeAt, placeOf, node}
 use Rattle.queries.specs.Conversion.{oneToFive, definitionsFirst, placeIn, sortByPlace, circuitOf}
 use Rattle.file.proofs.BoolLaws.{bool-cases, clash-bool, not-true, not-false, split-lt}
 use Rattle.graph.proofs.ListLaws.{all-here, all-fails, all-at, length-countFrom, length-upTo, upTo-at}
@@ -32,7 +32,7 @@ use Rattle.file.specs.declared.Outcome.the-variants.{Done, Refused}
 use Rattle.insertion.specs.declared.Inserted.{Inserted}
 use Rattle.insertion.specs.declared.Loaded.{Loaded}
 use Rattle.links.specs.Links.{nearAll}
-use Rattle.insertion.specs.Insertion.{grown}
+use Rattle.insertion.specs.Insertion.{nodeOf, grown}
 use Rattle.insertion.specs.Limits.{insertAs}
 use Rattle.insertion.proofs.CaseLaws.{Taken, Cause, accepted, taken-or-refused, taken-inserts, cause-refuses}
 use Rattle.insertion.specs.Load.{notLoaded, insertRecords}
@@ -60,7 +60,7 @@ grows-or-stops i g b = ⊎-elim
     (taken-or-refused nearAll g b)
 
 module _ (g : CircuitDag) (b : List ℕ) (e : front b ≡ false) where
-  nodes-grown : grown nearAll g b .nodes ≡ record { count = size g + 1; kind = set (g .nodes .kind) (size g) (kind b); form = set (g .nodes .form) (size g) (qubitForm b); label = set (g .nodes .label) (size g) (label b); place = set (g .nodes .place) (size g) (pos (g .backs)) }
+  nodes-grown : grown nearAll g b .nodes ≡ appendNode (g .nodes) (nodeOf b (pos (g .backs)))
   unfolding grown
   nodes-grown = rw e refl
 
@@ -120,7 +120,7 @@ module _ (s : List ℕ) where
         (ap (λ (x : ℕ). f (recordAt s x)) (sym (ap (λ (n : ℕ). getD after n 0) (F .nodes .count) ∙ getD-append-seam done i [] 0)))
         v (omega (arith, longer))
 
-    nodes-more : NodesFilled after (record { count = size g + 1; kind = set (g .nodes .kind) (size g) (kind b); form = set (g .nodes .form) (size g) (qubitForm b); label = set (g .nodes .label) (size g) (label b); place = set (g .nodes .place) (size g) (pos (g .backs)) })
+    nodes-more : NodesFilled after (appendNode (g .nodes) (nodeOf b (pos (g .backs))))
     nodes-more = record {
       count = sym longer;
       kinds = length-set (g .nodes .kind) (size g) (kind b) ∙ F .nodes .kinds;

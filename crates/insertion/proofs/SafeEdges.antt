@@ -15,10 +15,10 @@ use lib.Seq.{length-take-le, getD-take, getD-append-add}
 use borrow.Author.Tests.{lt-ltb, ltb-true, eq-eqb}
 use Rattle.file.specs.Lists.{distinct, member, isEmpty}
 use Rattle.graph.specs.declared.Edges.{Edges}
-use Rattle.graph.specs.Dag.{Edge}
+use Rattle.graph.specs.Dag.{Edge, appended, withEdges}
 use Rattle.file.proofs.BoolLaws.{clash-bool}
 use Rattle.graph.proofs.ListLaws.{map-at, at-any, distinct-at}
-use Rattle.links.specs.Links.{link, appended, withEdges}
+use Rattle.links.specs.Links.{link}
 use Rattle.insertion.specs.Insertion.{placeAfter}
 use Rattle.insertion.proofs.SafeEnds.{Old}
 

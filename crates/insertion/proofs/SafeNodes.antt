@@ -17,7 +17,7 @@ use Rattle.graph.specs.declared.Nodes.{Nodes}
 use Rattle.graph.specs.declared.Registers.{Registers}
 use Rattle.graph.specs.declared.Commuting.{Commuting}
 use Rattle.graph.specs.declared.CircuitDag.{CircuitDag}
-use Rattle.graph.specs.Dag.{Entry, entry, size, entriesOf, sameKey}
+use Rattle.graph.specs.Dag.{Entry, entry, size, appendNode, entriesOf, sameKey}
 use Rattle.file.proofs.BoolLaws.{bool-cases, clash-bool, and-l, and-r, split-lt}
 use Rattle.graph.proofs.ListLaws.{all-at, at-all}
 use Rattle.registers.specs.Registers.{Maps, registersAfter}
@@ -78,16 +78,6 @@ pub record NodesSafe (b : Bool) (x : Nodes) (near far : ℕ) : Type 0 where
   pub within : (v : ℕ) → v < x .count → lies b near far (getD (x .place) v (pos 0)) ≡ true
   pub apart : (u v : ℕ) → u < v → v < x .count → getD (x .place) u (pos 0) ≡ getD (x .place) v (pos 0) → ⊥
 
--- one node more
-abbrev pub moreNodes : Nodes → ℕ → ℕ → ℕ → ℤ → Nodes
-moreNodes x k f l p = record {
-  count = x .count + 1;
-  kind = set (x .kind) (x .count) k;
-  form = set (x .form) (x .count) f;
-  label = set (x .label) (x .count) l;
-  place = set (x .place) (x .count) p;
-}
-
 abbrev pub operatesAt : Nodes → ℕ → Bool
 operatesAt x v = operates (getD (x .kind) v 0) (getD (x .form) v 0)
 
@@ -96,7 +86,7 @@ placeAt x v = getD (x .place) v (pos 0)
 
 module _ (b : Bool) (x : Nodes) (near far k f l : ℕ) (N : NodesSafe b x near far) (room : x .count < 512) where
   abbrev x′ : Nodes
-  x′ = moreNodes x k f l (placeAfter b near)
+  x′ = appendNode x (record { kind = k; form = f; label = l; place = placeAfter b near })
 
   pub operates-same : (u : ℕ) → u < x .count → operatesAt x′ u ≡ operatesAt x u
   operates-same u h =

@@ -6,11 +6,10 @@ use lib.Dec.{eqb}
 use lib.IntN.{ℤ, pos, negsuc}
 use lib.ListN.{set}
 use Rattle.file.specs.Records.{front, kind, qubitForm, registerForm, label, defines, qubitsOf}
-use Rattle.graph.specs.declared.Nodes.{Nodes}
 use Rattle.graph.specs.declared.Commuting.{Commuting}
 use Rattle.graph.specs.declared.CircuitDag.{CircuitDag}
-use Rattle.graph.specs.Dag.{size, entriesOf}
-use Rattle.links.specs.Links.{Linked, FarRule, linkBy, link, withEdges}
+use Rattle.graph.specs.Dag.{Node, appendNode, size, entriesOf, withEdges}
+use Rattle.links.specs.Links.{Linked, FarRule, linkBy, link}
 use Rattle.registers.specs.Registers.{Maps, registersAfter, withEntries}
 
 -- "Front insertion is the mirror: first for last, firstAll for lastAll, edges out of v." The graph seen from its front
@@ -45,26 +44,20 @@ registered h s = registersAfter s (size h) (record { near = entriesOf (h .«last
 abbrev pub commutes : List ℕ → Bool
 commutes s = defines (kind s) || (eqb (qubitForm s) 0 && eqb (registerForm s) 0)
 
--- "A node keeps kind, qubit form, label and place"; "Node numbers run from 0 in order of insertion."
-abbrev pub withNode : CircuitDag → List ℕ → Nodes
-withNode h s = record {
-  count = size h + 1;
-  kind = set (h .nodes .kind) (size h) (kind s);
-  form = set (h .nodes .form) (size h) (qubitForm s);
-  label = set (h .nodes .label) (size h) (label s);
-  place = set (h .nodes .place) (size h) (placeAfter (front s) (h .backs));
-}
+-- "A node keeps kind, qubit form, label and place": the record s at a place
+abbrev pub nodeOf : List ℕ → ℤ → Node
+nodeOf s p = record { kind = kind s; form = qubitForm s; label = label s; place = p }
 
 -- "join the commuting list"
 abbrev pub withCommuting : CircuitDag → Bool → Commuting
 withCommuting h false = h .commuting
 withCommuting h true = record { count = h .commuting .count + 1; list = set (h .commuting .list) (h .commuting .count) (size h) }
 
--- the graph h, seen from the end of the insertion, after the record s
-abbrev pub extended : CircuitDag → List ℕ → Linked → Maps → CircuitDag
-extended h s x r = record {
-  nodes = withNode h s;
-  edges = withEdges (h .edges) (map (link (front s) (size h)) (x .others));
+-- the graph h, seen from the end f of the insertion (true: the front), after the record s
+abbrev pub extended : Bool → CircuitDag → List ℕ → Linked → Maps → CircuitDag
+extended f h s x r = record {
+  nodes = appendNode (h .nodes) (nodeOf s (placeAfter f (h .backs)));
+  edges = withEdges (h .edges) (map (link f (size h)) (x .others));
   first = x .far;
   last = x .near;
   «first_registers» = withEntries (h .«first_registers») (r .far);
@@ -74,6 +67,10 @@ extended h s x r = record {
   fronts = h .fronts;
 }
 
--- the graph g after an accepted record: turned to the record's end, extended there, and turned back
+-- the graph g after an accepted record at the end f: turned to that end, extended there, and turned back
+abbrev pub grownAt : FarRule → Bool → CircuitDag → List ℕ → CircuitDag
+grownAt rule f g s = let h = facing f g in facing f (extended f h s (linked rule h s) (registered h s))
+
+-- "Byte 0 alone makes an insertion a back or a front one"
 unfoldable pub grown : FarRule → CircuitDag → List ℕ → CircuitDag
-grown rule g s = let h = facing (front s) g in facing (front s) (extended h s (linked rule h s) (registered h s))
+grown rule g s = grownAt rule (front s) g s

@@ -11,7 +11,8 @@ use Rattle.graph.specs.declared.CircuitDag.{CircuitDag}
 use Rattle.links.specs.declared.LinkedRecords.{LinkedRecords}
 use Rattle.registers.specs.declared.Registered.{Registered}
 use Rattle.insertion.specs.declared.nodes.NodeLists.{NodeLists}
-use Rattle.insertion.specs.Insertion.{placeAfter, commutes}
+use Rattle.graph.specs.Dag.{appendNode}
+use Rattle.insertion.specs.Insertion.{placeAfter, commutes, nodeOf}
 
 -- the nodes, the commuting list and the counts of insertions of a graph
 abbrev pub nodeLists : CircuitDag → NodeLists
@@ -20,13 +21,7 @@ nodeLists g = record { nodes = g .nodes; commuting = g .commuting; backs = g .ba
 -- .. and after the record b became the next node
 unfoldable pub nodeAfter : List ℕ → NodeLists → NodeLists
 nodeAfter b x = let v = x .nodes .count in record {
-  nodes = record {
-    count = v + 1;
-    kind = set (x .nodes .kind) v (kind b);
-    form = set (x .nodes .form) v (qubitForm b);
-    label = set (x .nodes .label) v (label b);
-    place = set (x .nodes .place) v (placeAfter (front b) (cond (front b) (x .fronts) (x .backs)));
-  };
+  nodes = appendNode (x .nodes) (nodeOf b (placeAfter (front b) (cond (front b) (x .fronts) (x .backs))));
   commuting = record {
     count = cond (commutes b) (x .commuting .count + 1) (x .commuting .count);
     list = cond (commutes b) (set (x .commuting .list) (x .commuting .count) v) (x .commuting .list);

@@ -7,8 +7,8 @@ use native.Mathlib.Numerals.{add-one}
 use native.Mathlib.Omega.{arith}
 use lib.ListN.{length, getD, take, drop, set, length-set, length-append, length-map, take-append-drop}
 use lib.Seq.{take-suc, drop-cons, set-at, length-take-le}
-use Rattle.graph.specs.Dag.{Edge}
-use Rattle.links.specs.Links.{link, appended}
+use Rattle.graph.specs.Dag.{Edge, appended}
+use Rattle.links.specs.Links.{link}
 use Rattle.links.specs.Ends.{EdgesAdded}
 
 pub appended-none : (n : ℕ) (old : List ℕ) → n ≤ length old → appended n [] old ≡ old

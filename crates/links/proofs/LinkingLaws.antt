@@ -24,7 +24,7 @@ use Rattle.file.specs.declared.Refusal.the-variants.{TooManyNodes, TooManyEdges
 use Rattle.graph.specs.declared.NodeIndex.{NodeIndex}
 use Rattle.graph.specs.declared.Edges.{Edges}
 use Rattle.graph.specs.declared.End.{End}
-use Rattle.graph.specs.Dag.{absent, present, atQubit, noEnd, empty}
+use Rattle.graph.specs.Dag.{absent, present, atQubit, noEnd, empty, withEdges}
 use Rattle.graph.specs.Soundness.{named, ifPresent}
 use Rattle.file.proofs.BoolLaws.{clash-bool, not-true, and-l, and-r}
 use Rattle.graph.proofs.ListLaws.{all-here, all-fails, all-at, at-all}
@@ -33,7 +33,7 @@ use Rattle.graph.proofs.SoundnessLaws.{named-all, named-node}
 use Rattle.file.specs.declared.Outcome.{Outcome}
 use Rattle.file.specs.declared.Outcome.the-variants.{Done, Refused}
 use Rattle.links.specs.declared.LinkedRecords.{LinkedRecords}
-use Rattle.links.specs.Links.{Linked, FarRule, link, linkAt, withEdges, edgeBound}
+use Rattle.links.specs.Links.{Linked, FarRule, link, linkAt, edgeBound}
 use Rattle.links.specs.Ends.{EndState, endState, several, endOf, endStateOf, EndFits, JoinedEnds, JoinedEndsBy, EdgesAdded}
 use Rattle.links.specs.Linking.{linksFrom, noLinks, linksStopped, linkRecord, linkRecords, linksFit, linksKept, linkNode}
 use Rattle.links.proofs.JoinLaws.{fits-none}

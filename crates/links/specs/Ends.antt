@@ -10,8 +10,8 @@ use Rattle.graph.specs.declared.NodeIndex.{NodeIndex}
 use Rattle.graph.specs.declared.Qubit.{Qubit}
 use Rattle.graph.specs.declared.Edges.{Edges}
 use Rattle.graph.specs.declared.End.{End}
-use Rattle.graph.specs.Dag.{absent, present, orElse, node}
-use Rattle.links.specs.Links.{Linked, FarRule, qubits, linkQubits, mapped, link, withEdges}
+use Rattle.graph.specs.Dag.{absent, present, orElse, node, withEdges}
+use Rattle.links.specs.Links.{Linked, FarRule, qubits, linkQubits, mapped, link}
 
 -- a map's entry of a qubit
 abbrev pub entryAt : List ℕ → Qubit → ℕ

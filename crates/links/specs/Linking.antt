@@ -13,11 +13,11 @@ use Rattle.file.specs.declared.Refusal.the-variants.{TooManyNodes, TooManyEdges
 use Rattle.graph.specs.declared.NodeIndex.{NodeIndex}
 use Rattle.graph.specs.declared.Edges.{Edges}
 use Rattle.graph.specs.declared.End.{End}
-use Rattle.graph.specs.Dag.{empty}
+use Rattle.graph.specs.Dag.{empty, withEdges}
 use Rattle.graph.specs.Soundness.{named, ifPresent}
 use Rattle.file.specs.declared.Outcome.the-variants.{Done, Refused}
 use Rattle.links.specs.declared.LinkedRecords.{LinkedRecords}
-use Rattle.links.specs.Links.{FarRule, link, withEdges, linkAt}
+use Rattle.links.specs.Links.{FarRule, link, linkAt}
 
 -- the ends and edges of v nodes ..
 abbrev pub linksFrom : ℕ → Edges → End → End → LinkedRecords

@@ -134,18 +134,6 @@ abbrev pub link : Bool → ℕ → ℕ → Edge
 link false v u = edge u v
 link true v u = edge v u
 
--- a list appended at the count of an array: what stands after it stays
-abbrev pub appended : {A : Type 0} → ℕ → List A → List A → List A
-appended n new old = onto (take n old ++ new) old
-
--- the new edges behind the old ones
-abbrev pub withEdges : Edges → List Edge → Edges
-withEdges es new = record {
-  count = es .count + length new;
-  from = appended (es .count) (map (λ (e : Edge). e .from) new) (es .from);
-  to = appended (es .count) (map (λ (e : Edge). e .to) new) (es .to);
-}
-
 -- "their count bounds the edges added": the most edges that a record adds, for a Set the count of its qubits, for All
 -- an entry of the map each
 abbrev pub edgeBound : InvolvedQubits → ℕ
