@@ -1,4 +1,5 @@
 pub mod BoolLaws
+pub mod PutLaws
 pub mod PairLaws
 pub mod RecordLaws
 pub mod TightLaws

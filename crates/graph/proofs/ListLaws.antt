@@ -10,6 +10,7 @@ use lib.Dec.{eqb, ltb}
 use lib.ListN.{length, getD, replicate, length-map}
 use borrow.Author.Tests.{eqb-true, ltb-true, lt-ltb}
 use Rattle.file.specs.Lists.{anyOf, allOf, keep, distinct, countFrom, upTo, markedFrom, member, members}
+use Rattle.file.proofs.PutLaws.{length-countFrom}
 use Rattle.file.proofs.BoolLaws.{bool-cases, clash-bool, not-true, not-false, bool-ext, eqb-same, and-l, and-r, and-intro, or-inl, or-inr}
 
 -- an array that holds one value
@@ -129,11 +130,6 @@ module _ {A : Type 0} where
       (bool-cases (p x))
 
 -- ---- the numbers below n
-
-pub length-countFrom : (n k : ℕ) → length (countFrom n k) ≡ n
-unfolding countFrom
-length-countFrom zero k = refl
-length-countFrom (suc n) k = ap suc (length-countFrom n (k + 1))
 
 module _ {A : Type 0} where
   pub length-upTo : (f : ℕ → A) (n : ℕ) → length (map f (upTo n)) ≡ n

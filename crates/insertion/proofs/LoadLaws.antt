@@ -15,7 +15,8 @@ use Rattle.file.specs.declared.Refusal.{Refusal}
 use Rattle.file.specs.declared.FileCheck.the-variants.{Sound, Refused as BadFile}
 use Rattle.file.proofs.PairLaws.{accepted}
 use Rattle.graph.specs.Dag.{empty}
-use Rattle.graph.proofs.ListLaws.{length-countFrom, at-all}
+use Rattle.file.proofs.PutLaws.{length-countFrom}
+use Rattle.graph.proofs.ListLaws.{at-all}
 use Rattle.file.specs.declared.Outcome.the-variants.{Done, Refused}
 use Rattle.links.specs.declared.LinkedRecords.{LinkedRecords}
 use Rattle.links.specs.Links.{FarRule, LoadingRule, ruleOf}

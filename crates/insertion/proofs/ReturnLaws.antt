@@ -23,7 +23,8 @@ use Rattle.graph.specs.declared.Nodes.{Nodes}
 use Rattle.graph.specs.Dag.{empty, size, appendNode, nodeAt, placeOf, node}
 use Rattle.queries.specs.Conversion.{oneToFive, definitionsFirst, placeIn, sortByPlace, circuitOf}
 use Rattle.file.proofs.BoolLaws.{bool-cases, clash-bool, not-true, not-false, split-lt}
-use Rattle.graph.proofs.ListLaws.{all-here, all-fails, all-at, length-countFrom, length-upTo, upTo-at}
+use Rattle.file.proofs.PutLaws.{length-countFrom}
+use Rattle.graph.proofs.ListLaws.{all-here, all-fails, all-at, length-upTo, upTo-at}
 use Rattle.graph.proofs.SoundnessLaws.{all-join}
 use Rattle.queries.proofs.BufferLaws.{keep-append}
 use Rattle.insertion.specs.declared.Answer.{Answer}

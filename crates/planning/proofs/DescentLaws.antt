@@ -9,7 +9,7 @@ use native.Mathlib.Decide.{decLt}
 use lib.Dec.{eqb}
 use lib.ListN.{length, getD, set, drop, replicate, length-set, length-replicate, List·getD-append}
 use borrow.Author.Tests.{eqb-true, eq-eqb}
-use Rattle.file.specs.Lists.{onto}
+use Rattle.file.specs.Lists.{onto, putAt}
 use Rattle.file.specs.declared.Refusal.{Refusal}
 use Rattle.file.specs.declared.Refusal.the-variants.{Unsound, ShortBuffer}
 use Rattle.graph.specs.declared.CircuitDag.{CircuitDag}
@@ -17,9 +17,9 @@ use Rattle.queries.specs.declared.Query.the-variants.{Entries, Refused}
 use Rattle.graph.specs.Dag.{absent, size}
 use Rattle.graph.specs.Soundness.{sound}
 use Rattle.queries.specs.Queries.{Lent}
-use Rattle.queries.specs.Marks.{putAt}
 use Rattle.file.proofs.BoolLaws.{bool-cases, clash-bool, and-l, and-r, and-intro, split-lt}
-use Rattle.queries.proofs.BufferLaws.{put-none, put-one, put-put, length-put, answers-short, answers-whole}
+use Rattle.file.proofs.PutLaws.{put-none, put-one, put-put, length-put}
+use Rattle.queries.proofs.BufferLaws.{answers-short, answers-whole}
 use Rattle.graph.proofs.ListLaws.{any-default}
 use Rattle.walk.specs.declared.BlockCount.{BlockCount}
 use Rattle.walk.specs.declared.BlockCount.the-variants.{Blocks, Refused as NotWalked}

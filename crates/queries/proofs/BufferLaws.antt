@@ -1,21 +1,22 @@
--- Lists written into a lent buffer: the nodes that are kept, and parts of a lent list. Assumes nothing.
+-- Lists written into a lent buffer: the nodes that are kept, and a layer. Assumes nothing.
 use mathlib.Core.Path.{_≡_, refl, sym, _∙_, ap}
 use mathlib.Core.Bool.{Bool, true, false, not, _&&_}
 use mathlib.Core.Logic.{⊎-elim}
-use mathlib.Core.List.{List, [], _∷_, _++_, append-assoc, append-nil}
+use mathlib.Core.List.{List, [], _∷_, _++_, append-nil}
 use Prim.Native.Nat.{ℕ, zero, suc, _+_, _-_, _≤_, _<_}
 use native.Mathlib.Omega.{arith}
 use native.Mathlib.Numerals.{add-one}
 use lib.Dec.{eqb}
-use lib.ListN.{length, getD, take, drop, set, replicate, length-append, length-drop, take-append-drop}
-use lib.Seq.{take-suc, take-length, length-take-le, take-at, drop-append-le, drop-append-add, slice-empty, drop-drop, set-split, slice, length-slice}
+use lib.ListN.{length, getD, take, drop, set, replicate, length-append, length-drop}
+use lib.Seq.{take-length, length-take-le, slice}
 use borrow.Author.Tests.{lt-ltb, le-ltb, ne-eqb, eq-eqb}
-use Rattle.file.specs.Lists.{keep, consIf, countFrom, upTo, member, markedFrom, members, isEmpty, onto}
+use Rattle.file.specs.Lists.{keep, consIf, countFrom, upTo, member, markedFrom, members, isEmpty, putAt}
 use Rattle.file.specs.declared.Refusal.the-variants.{ShortBuffer}
 use Rattle.queries.specs.declared.Query.the-variants.{Entries}
 use Rattle.queries.specs.Queries.{Lent, refuses, answers, remove}
-use Rattle.queries.specs.Marks.{kept, putAt, without, layerBy, FirstAt}
+use Rattle.queries.specs.Marks.{kept, without, layerBy, FirstAt}
 use Rattle.file.proofs.BoolLaws.{bool-cases, clash-bool, split-lt}
+use Rattle.file.proofs.PutLaws.{put-none, put-put, length-put, put-one, put-onto}
 use Rattle.graph.proofs.ListLaws.{at-any, at-none}
 use Rattle.graph.proofs.CheckLaws.{unmarked}
 
@@ -70,38 +71,6 @@ module _ (p : ℕ → Bool) where
       (λ (t : p u ≡ true). rw (keep-yes u t) (omega (arith, length-append (keep p (upTo u)) (u ∷ []), keep-low u)))
       (λ (t : p u ≡ false). rw (keep-no u t) (omega (arith, keep-low u)))
       (bool-cases (p u)))
-
--- ---- a list over a buffer's entries
-
-pub put-none : (i : ℕ) (b : List ℕ) → putAt i [] b ≡ b
-put-none i b = let z : i + 0 ≡ i = omega arith in rw z (take-append-drop i b)
-
--- a second list after a first
-pub put-put : (i : ℕ) (l k b : List ℕ) → i ≤ length b → putAt (i + length l) k (putAt i l b) ≡ putAt i (l ++ k) b
-put-put i l k b h =
-    let p = take i b ++ l in
-    let d = drop (i + length l) b in
-    let n : length p ≡ i + length l = length-append (take i b) l ∙ ap (λ (x : ℕ). x + length l) (length-take-le i b h) in
-    let whole : putAt i l b ≡ p ++ d = sym (append-assoc (take i b) l d) in
-    let rest : drop ((i + length l) + length k) (p ++ d) ≡ drop ((i + length l) + length k) b =
-    ap (λ (x : ℕ). drop (x + length k) (p ++ d)) (sym n) ∙ drop-append-add p d (length k) ∙ drop-drop (length k) (i + length l) b in
-    let z : (i + length l) + length k ≡ i + length (l ++ k) = omega (arith, length-append l k) in
-    rw whole (rw (take-at p d (i + length l) n, rest, z, append-assoc (take i b) l, append-assoc l k (drop (i + length (l ++ k)) b)) refl)
-
-pub length-put : (i : ℕ) (l b : List ℕ) → i + length l ≤ length b → length (putAt i l b) ≡ length b
-length-put i l b h = omega (arith, length-append (take i b) (l ++ drop (i + length l) b), length-append l (drop (i + length l) b), length-take-le i b (omega arith), length-drop (i + length l) b)
-
--- one entry more
-pub put-one : (i x : ℕ) (l b : List ℕ) → i + length l < length b → set (putAt i l b) (i + length l) x ≡ putAt i (l ++ (x ∷ [])) b
-put-one i x l b h =
-    let z : suc (i + length l) ≡ (i + length l) + 1 = omega arith in
-    set-split (putAt i l b) (i + length l) x (omega (arith, length-put i l b (omega arith)))
-    ∙ ap (λ (n : ℕ). take (i + length l) (putAt i l b) ++ (x ∷ drop n (putAt i l b))) z
-    ∙ put-put i l (x ∷ []) b (omega arith)
-
--- from the start on
-pub put-onto : (l b : List ℕ) → putAt 0 l b ≡ onto l b
-put-onto l b = let z : 0 + length l ≡ length l = omega arith in ap (λ (n : ℕ). l ++ drop n b) z
 
 -- the marked nodes, with none skipped
 pub members-kept : (mark skip : List Bool) → length mark ≡ 512 → skip ≡ replicate 512 false → kept mark skip 512 ≡ members mark
@@ -226,45 +195,6 @@ not-yet v i l f n j h = ⊎-elim
     (λ (e : j ≡ i). ne-eqb v (getD l j 0) (λ x. n (ap (λ (k : ℕ). getD l k 0) (sym e) ∙ sym x)))
     (λ (e : j < i). f j e)
     (split-lt j i h)
-
--- a part of a list is copied
-module _ (list : List ℕ) (a e start : ℕ) (b₀ : List ℕ) where
-  pub record Copying (b : List ℕ) (i : ℕ) : Type 0 where
-    pub from : a ≤ i
-    pub low : i ≤ e
-    pub top : e ≤ length list
-    pub room : start + (e - a) ≤ length b₀
-    pub put : b ≡ putAt start (slice a i list) b₀
-
-  pub copies-none : a ≤ e → e ≤ length list → start + (e - a) ≤ length b₀ → Copying b₀ a
-  copies-none o t r = record { from = omega arith; low = o; top = t; room = r; put = sym (ap (λ (l : List ℕ). putAt start l b₀) (slice-empty a list) ∙ put-none start b₀) }
-
-  module _ (b : List ℕ) (i : ℕ) (C : Copying b i) (h : i < e) where
-    pub copies-room : start + (i - a) < length b
-    copies-room = omega (arith, C .room, C .from, C .top, ap length (C .put), length-put start (slice a i list) b₀ (omega (arith, C .from, C .top, C .room, length-slice a i list (omega (arith, C .top)))))
-
-    pub copies-one : Copying (set b (start + (i - a)) (getD list i 0)) (i + 1)
-    copies-one =
-        let n : length (slice a i list) ≡ i - a = length-slice a i list (omega (arith, C .top)) in
-        let q : start + (i - a) ≡ start + length (slice a i list) = omega (arith, n) in
-        record {
-          from = omega (arith, C .from);
-          low = omega arith;
-          top = C .top;
-          room = C .room;
-          put = (λ t. set (C .put t) (q t) (getD list i 0))
-              ∙ put-one start (getD list i 0) (slice a i list) b₀ (omega (arith, n, C .room, C .from))
-              ∙ ap (λ (l : List ℕ). putAt start l b₀) (sym (slice-more a i list (C .from) (omega (arith, C .top))));
-        }
-      where
-        slice-more : (a i : ℕ) (l : List ℕ) → a ≤ i → i < length l → slice a (i + 1) l ≡ slice a i l ++ (getD l i 0 ∷ [])
-        slice-more a i l h k = rw (add-one i, take-suc l i 0 k) (drop-append-le a (take i l) (getD l i 0 ∷ []) (omega (arith, length-take-le i l (omega arith))))
-
-  pub copies-long : (b : List ℕ) (i : ℕ) → Copying b i → length b ≡ length b₀
-  copies-long b i C = ap length (C .put) ∙ length-put start (slice a i list) b₀ (omega (arith, C .from, C .low, C .top, C .room, length-slice a i list (omega (arith, C .low, C .top))))
-
-  pub copies-all : (b : List ℕ) (i : ℕ) → Copying b i → e ≤ i → b ≡ putAt start (slice a e list) b₀
-  copies-all b i C h = let z : i ≡ e = omega (arith, C .low) in C .put ∙ ap (λ (x : ℕ). putAt start (slice a x list) b₀) z
 
 -- ---- the layer
 

@@ -15,7 +15,8 @@ use Rattle.file.specs.declared.InvolvedClassical.{InvolvedClassical}
 use Rattle.graph.specs.declared.Registers.{Registers}
 use Rattle.graph.specs.Dag.{Entry, entry, sameKey, entryAt, entriesOf}
 use Rattle.file.proofs.BoolLaws.{clash-bool, not-true, not-false}
-use Rattle.graph.proofs.ListLaws.{length-countFrom, upTo-at}
+use Rattle.file.proofs.PutLaws.{length-countFrom}
+use Rattle.graph.proofs.ListLaws.{upTo-at}
 use Rattle.registers.specs.Registers.{hasKey, put, withEntries}
 use Rattle.registers.specs.RegisterMaps.{Grown, registers, keyed, StandsAt, Sized, Fits, Becomes, BothBecome, joined, pass}
 use Rattle.registers.proofs.RegisterLists.{any-false, same-name, same-index, same-by, put-found, put-absent, length-put-has, length-put-new}

@@ -11,7 +11,7 @@ use lib.Seq.{sets, length-sets}
 use borrow.Author.Tests.{lt-ltb, le-ltb, eq-eqb, ne-eqb}
 use Rattle.file.specs.Lists.{keep, consIf, countFrom, upTo}
 use Rattle.graph.specs.Dag.{absent}
-use Rattle.graph.proofs.ListLaws.{length-countFrom}
+use Rattle.file.proofs.PutLaws.{length-countFrom}
 use Rattle.graph.proofs.ListLaws.{any-default}
 use Rattle.file.specs.declared.Refusal.{Refusal}
 use Rattle.file.specs.declared.RefusalValue.{RefusalValue}

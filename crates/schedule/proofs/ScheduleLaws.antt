@@ -12,7 +12,7 @@ use lib.ListN.{length, getD, take, drop, length-map, length-take}
 use lib.Seq.{getD-take, getD-drop}
 use borrow.Author.Tests.{eq-eqb, lt-ltb}
 use Rattle.file.specs.Lists.{allOf, anyOf, keep, isEmpty, member, countFrom, upTo}
-use Rattle.file.specs.Pairs.{countOf, partOf, pairPlace, recordAt}
+use Rattle.file.specs.Pairs.{countOf, partOf, pairPlace, recordAt, recordsOf}
 use Rattle.file.specs.declared.Place.{Place}
 use Rattle.file.specs.declared.Place.the-variants.{At, Refused as NotThere}
 use Rattle.file.specs.Records.{front}
@@ -24,7 +24,8 @@ use Rattle.file.proofs.BoolLaws.{clash-bool}
 use Rattle.graph.specs.declared.CircuitDag.{CircuitDag}
 use Rattle.graph.specs.Dag.{empty, size}
 use Rattle.graph.specs.Soundness.{sound}
-use Rattle.graph.proofs.ListLaws.{at-all, length-countFrom, upTo-all, map-at}
+use Rattle.file.proofs.PutLaws.{length-countFrom}
+use Rattle.graph.proofs.ListLaws.{at-all, upTo-all, map-at}
 use Rattle.insertion.specs.declared.Answer.{Answer}
 use Rattle.insertion.specs.declared.Answer.the-variants.{Node, Refused as NotInserted}
 use Rattle.insertion.specs.declared.Loaded.{Loaded}
@@ -46,7 +47,7 @@ use Rattle.walk.proofs.BlockSteps.{empty-not}
 use Rattle.walk.proofs.BlockLaws.{past-last}
 use Rattle.guarantee.proofs.DemandLaws.{demand-3}
 use Rattle.walk.proofs.WholeLaws.{walk-short, walk-done}
-use Rattle.schedule.specs.Schedule.{walkLoaded, schedule, recordsOf, placedFrom, placed, pulses, Condition, blockIn, Scheduled, NotScheduled}
+use Rattle.schedule.specs.Schedule.{walkLoaded, schedule, placedFrom, placed, pulses, Condition, blockIn, Scheduled, NotScheduled}
 
 -- ---- by the load's answer
 

@@ -9,7 +9,7 @@ use lib.Dec.{ltb, eqb}
 use lib.IntN.{pos, negsuc}
 use lib.ListN.{length, getD}
 use Rattle.file.specs.Lists.{anyOf, keep, member, upTo}
-use Rattle.file.specs.Pairs.{countOf, recordAt}
+use Rattle.file.specs.Pairs.{countOf, recordsOf}
 use Rattle.file.specs.Records.{front}
 use Rattle.file.specs.declared.Refusal.{Refusal}
 use Rattle.file.specs.declared.Refusal.the-variants.{ShortBuffer}
@@ -29,10 +29,6 @@ unfoldable pub schedule : List ℕ → List ℕ → Walked
 schedule s buffer = walkLoaded (load s) buffer
 
 -- ---- the circuit of a file
-
--- the file's records, in file order
-abbrev pub recordsOf : List ℕ → List (List ℕ)
-recordsOf s = map (recordAt s) (upTo (countOf s))
 
 -- records with their numbers and places, after b back and f front ones: "The k-th back insertion has place k - 1, the k-th front insertion place
 -- -k". In a file that loads no record is refused, so a record's number in the file is its node's.

@@ -1,4 +1,4 @@
-use Rattle.queries.proofs.BufferLaws.{Copying, copies-none, copies-room, copies-one, copies-long, copies-all}
+use Rattle.file.proofs.PutLaws.{Copying, copies-none, copies-room, copies-one, copies-long, copies-all}
 use Prim.Native.Nat.{_-_}
 use borrow.Author.Needs.{needs}
 use Rattle.queries.proofs.queries.copy_part.Statement.{statement}
