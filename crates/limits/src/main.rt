@@ -8,49 +8,36 @@ use graph::CircuitDag;
 use insertion::Answer;
 use libc::STDOUT_FILENO;
 
-// Byte b of gate k's mask. Plain: qubit 0. In layers of 8: row k of an 8 x 8 grid of qubits in one layer, column k in the next, so that a
-// gate has one qubit from every gate of the layer before.
-fn mask_byte(layers: bool, k: usize, b: usize) -> u8 {
+// Gate k's mask. Plain: qubit 0. In layers of 8: row k of an 8 x 8 grid of qubits in one layer, column k in the next, so that a gate has one
+// qubit from every gate of the layer before.
+fn mask_of(layers: bool, k: usize) -> u64 {
     let j = k % 8;
     if !layers {
-        return if b == 0 { 1 } else { 0 };
+        return 1;
     }
     if k / 8 % 2 == 0 {
-        return if b == j { 255 } else { 0 };
+        return 255 << (8 * j);
     }
-    1 << j
+    72340172838076673 << j
 }
 
-// Record k of the file, at a place: an end, a Set, its mask; the other bytes are zeros.
-fn put_gate(file: &mut [u8; 9218], at: usize, front: u8, layers: bool, k: usize)
-    requires { ⌜ at + 14 ≤ 9218 ⌝ }
-{
-    file[at] = front;
-    file[at + 2] = 2;
-    let mut b: usize = 0;
-    while b < 8 {
-        file[at + 3 + b] = mask_byte(layers, k, b);
-        b += 1;
+// The masks of all gates.
+fn all_masks(layers: bool) -> [u64; 512] {
+    let mut masks = [0u64; 512];
+    let mut k: usize = 0;
+    while k < 512 {
+        masks[k] = mask_of(layers, k);
+        k += 1;
     }
+    masks
 }
 
 // A file of n gates, at the start of the array.
-fn gates(n: usize, front: u8, layers: bool) -> [u8; 9218]
-    requires { ⌜ n ≤ 512 ⌝ }
-{
+fn gates(n: usize, front: bool, layers: bool) -> [u8; 9218] {
+    let ends = [front; 512];
+    let masks = all_masks(layers);
     let mut file = [0u8; 9218];
-    file[0] = (n % 256) as u8;
-    file[1] = (n / 256) as u8;
-    let mut k: usize = 0;
-    while k < n {
-        let pair = 2 + 4 * k;
-        let at = 2 + 4 * n + 14 * k;
-        file[pair] = (at % 256) as u8;
-        file[pair + 1] = (at / 256 % 256) as u8;
-        file[pair + 2] = 14;
-        put_gate(&mut file, at, front, layers, k);
-        k += 1;
-    }
+    writing::write_gates(n, &ends, &masks, &mut file);
     file
 }
 
@@ -153,8 +140,7 @@ fn definition(length: u16) -> [u8; 23] {
     file[7] = 1;
     file[17] = 4;
     file[20] = 1;
-    file[21] = (length % 256) as u8;
-    file[22] = (length / 256) as u8;
+    writing::put_u16(&mut file, 21, length);
     file
 }
 
@@ -171,15 +157,13 @@ fn measured(length: u16, first: usize, c: usize) -> [u8; 117]
     file[11] = 1;
     file[21] = 4;
     file[24] = 1;
-    file[25] = (length % 256) as u8;
-    file[26] = (length / 256) as u8;
+    writing::put_u16(&mut file, 25, length);
     file[38] = 3;
     file[41] = c as u8;
     let mut k: usize = 0;
     while k < c {
         file[42 + 3 * k] = 1;
-        file[43 + 3 * k] = ((first + k) % 256) as u8;
-        file[44 + 3 * k] = ((first + k) / 256) as u8;
+        writing::put_u16(&mut file, 43 + 3 * k, (first + k) as u16);
         k += 1;
     }
     file
@@ -216,13 +200,13 @@ fn print_lists(entry: &[u8]) {
 }
 
 fn main() {
-    let gate = [0u8, 0, 2, 1, 0, 0, 0, 0, 0, 0, 0, 0, 0, 0];
+    let gate = writing::gate_record(false, 1);
     let entry = [0u8, 0, 0, 0, 0, 0, 0, 0, 0, 0, 0, 3, 0, 0, 1, 2, 0, 0];
-    let back = gates(512, 0, false);
+    let back = gates(512, false, false);
     print_load(b"512 at the back: ", &back, 9218, 511, &gate);
-    let front = gates(512, 1, false);
+    let front = gates(512, true, false);
     print_load(b"512 at the front: ", &front, 9218, 511, &gate);
-    let layers = gates(264, 0, true);
+    let layers = gates(264, false, true);
     print_load(b"33 layers of 8: ", &layers, 4754, 263, &gate);
     let most = definition(256);
     print_load(b"a definition of 256: ", &most, 23, 0, &entry);

@@ -1,13 +1,15 @@
+use mathlib.Core.Path.{_≡_}
 use Prim.Native.Nat.{_-_, _≤_}
+use lib.ListN.{length}
 use borrow.Author.Needs.{needs}
 use Rattle.limits.proofs.measured.Statement.{statement}
 use Rattle.limits.proofs.measured.Tie as tie
 
 abbrev Inv-loop : tie.InvT-loop
-Inv-loop length first c file₀ k₀ file k = k ≤ c
+Inv-loop size first c file₀ k₀ file k = (k ≤ c) × (length file ≡ 117)
 
 abbrev μ-loop : tie.MeasureT-loop
-μ-loop length first c file₀ k₀ file k = c - k
+μ-loop size first c file₀ k₀ file k = c - k
 
 array-write-file : tie.Need-array-write-file Inv-loop μ-loop
 array-write-file c = search needs
@@ -42,26 +44,20 @@ array-write-file-7 c = search needs
 array-write-file-8 : tie.Need-array-write-file-8 Inv-loop μ-loop
 array-write-file-8 c = search needs
 
-cast-file-2 : tie.Need-cast-file-2 Inv-loop μ-loop
-cast-file-2 c = search needs
+slice-aggregate-put-u16 : tie.Need-slice-aggregate-put-u16 Inv-loop μ-loop
+slice-aggregate-put-u16 c = search needs
+
+put-u16-requires : tie.Need-put-u16-requires Inv-loop μ-loop
+put-u16-requires c κs = search needs
 
 array-write-file-9 : tie.Need-array-write-file-9 Inv-loop μ-loop
 array-write-file-9 c = search needs
 
-cast-file-3 : tie.Need-cast-file-3 Inv-loop μ-loop
-cast-file-3 c = search needs
+cast-file-2 : tie.Need-cast-file-2 Inv-loop μ-loop
+cast-file-2 c = search needs
 
 array-write-file-10 : tie.Need-array-write-file-10 Inv-loop μ-loop
 array-write-file-10 c = search needs
-
-array-write-file-11 : tie.Need-array-write-file-11 Inv-loop μ-loop
-array-write-file-11 c = search needs
-
-cast-file-4 : tie.Need-cast-file-4 Inv-loop μ-loop
-cast-file-4 c = search needs
-
-array-write-file-12 : tie.Need-array-write-file-12 Inv-loop μ-loop
-array-write-file-12 c = search needs
 
 loop-holds : tie.Need-loop-holds Inv-loop μ-loop
 loop-holds c = search needs
@@ -72,38 +68,26 @@ mul-file-2 c = search needs
 add-file-2 : tie.Need-add-file-2 Inv-loop μ-loop
 add-file-2 c = search needs
 
-array-write-file-13 : tie.Need-array-write-file-13 Inv-loop μ-loop
-array-write-file-13 c = search needs
+array-write-file-11 : tie.Need-array-write-file-11 Inv-loop μ-loop
+array-write-file-11 c = search needs
 
-add-file-3 : tie.Need-add-file-3 Inv-loop μ-loop
-add-file-3 c = search needs
+slice-aggregate-put-u16-2 : tie.Need-slice-aggregate-put-u16-2 Inv-loop μ-loop
+slice-aggregate-put-u16-2 c = search needs
 
-cast-file-5 : tie.Need-cast-file-5 Inv-loop μ-loop
-cast-file-5 c = search needs
+mul-put-u16 : tie.Need-mul-put-u16 Inv-loop μ-loop
+mul-put-u16 c = search needs
 
-mul-file-3 : tie.Need-mul-file-3 Inv-loop μ-loop
-mul-file-3 c = search needs
+add-put-u16 : tie.Need-add-put-u16 Inv-loop μ-loop
+add-put-u16 c = search needs
 
-add-file-4 : tie.Need-add-file-4 Inv-loop μ-loop
-add-file-4 c = search needs
+add-put-u16-2 : tie.Need-add-put-u16-2 Inv-loop μ-loop
+add-put-u16-2 c = search needs
 
-array-write-file-14 : tie.Need-array-write-file-14 Inv-loop μ-loop
-array-write-file-14 c = search needs
+cast-put-u16 : tie.Need-cast-put-u16 Inv-loop μ-loop
+cast-put-u16 c = search needs
 
-add-file-5 : tie.Need-add-file-5 Inv-loop μ-loop
-add-file-5 c = search needs
-
-cast-file-6 : tie.Need-cast-file-6 Inv-loop μ-loop
-cast-file-6 c = search needs
-
-mul-file-4 : tie.Need-mul-file-4 Inv-loop μ-loop
-mul-file-4 c = search needs
-
-add-file-6 : tie.Need-add-file-6 Inv-loop μ-loop
-add-file-6 c = search needs
-
-array-write-file-15 : tie.Need-array-write-file-15 Inv-loop μ-loop
-array-write-file-15 c = search needs
+put-u16-requires-2 : tie.Need-put-u16-requires-2 Inv-loop μ-loop
+put-u16-requires-2 c κs = search needs
 
 add-k : tie.Need-add-k Inv-loop μ-loop
 add-k c = search needs
@@ -134,27 +118,21 @@ measured-spec =
     array-write-file-6
     array-write-file-7
     array-write-file-8
-    cast-file-2
+    slice-aggregate-put-u16
+    put-u16-requires
     array-write-file-9
-    cast-file-3
+    cast-file-2
     array-write-file-10
-    array-write-file-11
-    cast-file-4
-    array-write-file-12
     loop-holds
     mul-file-2
     add-file-2
-    array-write-file-13
-    add-file-3
-    cast-file-5
-    mul-file-3
-    add-file-4
-    array-write-file-14
-    add-file-5
-    cast-file-6
-    mul-file-4
-    add-file-6
-    array-write-file-15
+    array-write-file-11
+    slice-aggregate-put-u16-2
+    mul-put-u16
+    add-put-u16
+    add-put-u16-2
+    cast-put-u16
+    put-u16-requires-2
     add-k
     loop-less
     loop-again
