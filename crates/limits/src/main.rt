@@ -1,6 +1,6 @@
 // The limits: 512 nodes at either end and the 513th refused, 2,048 edges and one more refused, 256 register entries and one more refused, by one key
 // and by a list of 24.
-ghost use Prim.Native.Nat.{_+_, _≤_, _<_};
+ghost use Prim.Native.Nat.{_≤_, _<_};
 use file::Outcome;
 use file::Refusal;
 use file::RefusalValue;
@@ -18,7 +18,7 @@ fn mask_of(layers: bool, k: usize) -> u64 {
     if k / 8 % 2 == 0 {
         return 255 << (8 * j);
     }
-    72340172838076673 << j
+    0x0101_0101_0101_0101 << j
 }
 
 // The masks of all gates.

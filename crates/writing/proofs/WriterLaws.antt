@@ -1,6 +1,6 @@
 -- The writers: a part at a position of a lent buffer, and the loops of a file of gates. Assumes nothing.
 use mathlib.Core.Path.{_≡_, refl, sym, _∙_, ap}
-use mathlib.Core.List.{List, [], _∷_, _++_, map, append-assoc}
+use mathlib.Core.List.{List, [], _∷_, _++_, map}
 use Prim.Native.Nat.{ℕ, zero, suc, _+_, _*_, _-_, _/_, _%_, _≤_, _<_}
 use native.Mathlib.Omega.{arith}
 use lib.ListN.{length, getD, set}
@@ -10,7 +10,7 @@ use Rattle.file.specs.Lists.{countFrom, upTo, onto, putAt}
 use Rattle.file.specs.declared.Refusal.the-variants.{TooManyRecords, ShortBuffer}
 use Rattle.file.proofs.PutLaws.{Copying, copies-one, copies-all, put-none, put-put, put-onto, length-put}
 use Rattle.writing.specs.declared.Written.the-variants.{Bytes}
-use Rattle.writing.specs.Writing.{bytesOf, pairsFrom, joinRecords, fileOf, gate, putIfFits, gatePairs, Wrote, refuses, writeFile}
+use Rattle.writing.specs.Writing.{bytesOf, pairsFrom, joinRecords, fileOf, putIfFits, gatePairs, Wrote, refuses, writeFile}
 use Rattle.writing.proofs.WritingLaws.{bytes-length, count-records, gates-length}
 
 -- ---- a part at a position

@@ -1,5 +1,6 @@
 -- A file made of records, read again: it keeps the rules of header and pairs, and has these records. Assumes nothing.
 use mathlib.Core.Path.{_≡_, refl, sym, _∙_, ap, subst}
+use mathlib.Core.Bool.{Bool, true, false}
 use mathlib.Core.List.{List, [], _∷_, _++_, map, append-assoc}
 use Prim.Native.Nat.{ℕ, zero, suc, _+_, _*_, _/_, _%_, _^_, _≤_, _<_}
 use native.Mathlib.Numerals.{add-one}
@@ -8,12 +9,16 @@ use lib.ListN.{length, getD, take, drop, length-append, length-map}
 use lib.Seq.{take-append-seam, drop-append-seam, getD-append-seam}
 use borrow.Author.Tests.{le-leb, le-ltb}
 use Rattle.file.specs.Lists.{countFrom, upTo}
-use Rattle.file.specs.Pairs.{numberAt, countOf, offsetOf, lengthOf, partOf, recordAt, recordsOf, checkPairs, checkFile}
+use Rattle.file.specs.Pairs.{numberAt, countOf, offsetOf, lengthOf, partOf, recordAt, checkPairs, checkFile}
+use Rattle.file.specs.Records.{mask, label, parseRecord, good, recordRule, definitionRule, qubitRule, tailRule, qubitsBy, classicalOf}
 use Rattle.file.specs.declared.FileCheck.the-variants.{Sound}
+use Rattle.file.specs.declared.Parsed.the-variants.{Record as Parses}
+use Rattle.file.specs.declared.InvolvedQubits.the-variants.{Set}
+use Rattle.file.specs.declared.InvolvedClassical.the-variants.{None as NoRegister}
 use Rattle.file.specs.declared.Place.{Place}
 use Rattle.file.proofs.PutLaws.{length-countFrom}
 use Rattle.file.proofs.PairLaws.{pair-there}
-use Rattle.writing.specs.Writing.{bytesOf, pairsFrom, joinRecords, fileOf, gate, ReadsAgain, FileReads}
+use Rattle.writing.specs.Writing.{bytesOf, pairsFrom, joinRecords, fileOf, endByte, gate, ReadsAgain, FileReads}
 
 -- ---- a number's bytes
 
@@ -235,6 +240,21 @@ file-reads = record { whole = λ l f h. reads-again l f h }
 pub gate-length : (e m : ℕ) → length (gate e m) ≡ 14
 unfolding gate bytesOf
 gate-length e m = refl
+
+gate-mask : (e m : ℕ) → m < 2 ^ 64 → mask (gate e m) ≡ m
+unfolding gate
+gate-mask e m h = number-at 8 m (e ∷ 0 ∷ 2 ∷ []) (0 ∷ 0 ∷ 0 ∷ []) h
+
+gate-label : (e m : ℕ) → label (gate e m) ≡ 0
+unfolding gate bytesOf numberAt
+gate-label e m = refl
+
+-- a gate parses to just its end and its qubits
+pub gate-parses : (front : Bool) (m : ℕ) → m < 2 ^ 64
+    → parseRecord (gate (endByte front) m) ≡ Parses (record { front = front; kind = 0; label = 0; qubits = Set m; classical = NoRegister })
+unfolding gate bytesOf parseRecord good recordRule definitionRule qubitRule tailRule qubitsBy classicalOf
+gate-parses true m h = λ t. Parses (record { front = true; kind = 0; label = gate-label 1 m t; qubits = Set (gate-mask 1 m h t); classical = NoRegister })
+gate-parses false m h = λ t. Parses (record { front = false; kind = 0; label = gate-label 0 m t; qubits = Set (gate-mask 0 m h t); classical = NoRegister })
 
 -- records of 14 bytes
 module _ (f : ℕ → List ℕ) (h : (i : ℕ) → length (f i) ≡ 14) where
