@@ -76,13 +76,15 @@ pub record Wrote : Type 0 where
 abbrev pub refuses : Refusal → List ℕ → Wrote
 refuses r buffer = record { answer = Refused r; buffer = buffer }
 
--- the file of these records at the buffer's start: "record count over 512" 2, "buffer shorter than the answer" 10; "Entries after the answer keep
--- their old contents."
+-- the file of these records at the buffer's start: "n over 512" 2, then "buffer shorter than the answer" 10; "Entries after the answer keep their
+-- old contents."
 unfoldable pub writeFile : List (List ℕ) → List ℕ → Wrote
 writeFile l buffer =
     cond (ltb 512 (length l)) (refuses TooManyRecords buffer)
     (cond (ltb (length buffer) (length (fileOf l))) (refuses ShortBuffer buffer)
     (record { answer = Bytes (length (fileOf l)); buffer = onto (fileOf l) buffer }))
+
+-- ---- what a private function promises
 
 -- the pairs of n gates, the first at offset a: 14 bytes each
 unfoldable pub gatePairs : ℕ → ℕ → List ℕ
