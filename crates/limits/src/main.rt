@@ -8,8 +8,8 @@ use graph::CircuitDag;
 use insertion::Answer;
 use libc::STDOUT_FILENO;
 
-// Gate k's mask. Plain: qubit 0. In layers of 8: row k of an 8 x 8 grid of qubits in one layer, column k in the next, so that a gate has one
-// qubit from every gate of the layer before.
+// Gate k's mask. Plain: qubit 0. In layers of 8: row k of an 8 x 8 grid of qubits in one layer, column k in the next, so
+// that a gate has one qubit from every gate of the layer before.
 fn mask_of(layers: bool, k: usize) -> u64 {
     let j = k % 8;
     if !layers {

@@ -7,9 +7,10 @@ use native.Mathlib.Numerals.{add-one}
 use native.Mathlib.Omega.{arith}
 use lib.ListN.{length, getD, take, drop, length-append, length-map}
 use lib.Seq.{take-append-seam, drop-append-seam, getD-append-seam}
-use borrow.Author.Tests.{le-leb, le-ltb}
+use borrow.Author.Tests.{eq-eqb, le-ltb}
 use Rattle.file.specs.Lists.{countFrom, upTo}
-use Rattle.file.specs.Pairs.{numberAt, countOf, offsetOf, lengthOf, partOf, recordAt, checkPairs, checkFile}
+use Rattle.file.specs.Pairs.{numberAt, countOf, offsetOf, lengthOf, partOf, recordAt, checkFile}
+use Rattle.file.specs.Tight.{tightPairs, tightFile}
 use Rattle.file.specs.Records.{mask, label, parseRecord, good, recordRule, definitionRule, qubitRule, tailRule, qubitsBy, classicalOf}
 use Rattle.file.specs.declared.FileCheck.the-variants.{Sound}
 use Rattle.file.specs.declared.Parsed.the-variants.{Record as Parses}
@@ -18,6 +19,7 @@ use Rattle.file.specs.declared.InvolvedClassical.the-variants.{None as NoRegist
 use Rattle.file.specs.declared.Place.{Place}
 use Rattle.file.proofs.PutLaws.{length-countFrom}
 use Rattle.file.proofs.PairLaws.{pair-there}
+use Rattle.file.proofs.TightLaws.{tight-file}
 use Rattle.writing.specs.Writing.{bytesOf, pairsFrom, joinRecords, fileOf, endByte, gate, ReadsAgain, FileReads}
 
 -- ---- a number's bytes
@@ -194,23 +196,27 @@ module _ (l : List (List ℕ)) (few : length l ≤ 512) (fits : length (fileOf l
       rw z (pair i h .size)
 
   -- the m pairs from pair k on
-  pairs-good : (m k : ℕ) → m + k ≡ n → checkPairs m k (startAt a l k) (fileOf l) ≡ Sound
-  unfolding checkPairs
-  pairs-good zero k e =
+  pairs-tight : (m k : ℕ) → m + k ≡ n → tightPairs m k (startAt a l k) (fileOf l) ≡ Sound
+  unfolding tightPairs
+  pairs-tight zero k e =
       let z : k ≡ n = omega arith in
-      rw (z, start-end a l, le-leb (a + length (joinRecords l)) (length (fileOf l)) (omega (arith, file-length l))) refl
-  pairs-good (suc m) k e =
+      let end : a + length (joinRecords l) ≡ length (fileOf l) = omega (arith, file-length l) in
+      rw (z, start-end a l, eq-eqb (a + length (joinRecords l)) (length (fileOf l)) end) refl
+  pairs-tight (suc m) k e =
       let h : k < n = omega arith in
-      let next : offsetOf (fileOf l) k + lengthOf (fileOf l) k ≡ startAt a l (k + 1) =
-      (λ i. offset-is k h i + length-is k h i) ∙ sym (start-next a l k h) ∙ ap (startAt a l) (sym (add-one k)) in
-      rw (next, offset-is k h, le-leb (startAt a l k) (startAt a l k) (omega arith)) (pairs-good m (k + 1) (omega arith))
+      let next : startAt a l k + lengthOf (fileOf l) k ≡ startAt a l (k + 1) =
+      ap (λ (x : ℕ). startAt a l k + x) (length-is k h) ∙ sym (start-next a l k h) ∙ ap (startAt a l) (sym (add-one k)) in
+      rw (next, eq-eqb (offsetOf (fileOf l) k) (startAt a l k) (offset-is k h)) (pairs-tight m (k + 1) (omega arith))
 
-  check-good : checkFile (fileOf l) ≡ Sound
-  unfolding checkFile
-  check-good =
+  file-tight : tightFile (fileOf l) ≡ Sound
+  unfolding tightFile
+  file-tight =
       let two = le-ltb (length (fileOf l)) 2 (omega (arith, file-length l)) in
       let table = le-ltb (length (fileOf l)) a (omega (arith, file-length l)) in
-      rw (count-is, two, le-ltb 512 n few, table, ← start-zero a l) (pairs-good n 0 (omega arith))
+      rw (count-is, two, le-ltb 512 n few, table, ← start-zero a l) (pairs-tight n 0 (omega arith))
+
+  check-good : checkFile (fileOf l) ≡ Sound
+  check-good = tight-file .passes (fileOf l) file-tight
 
   record-is : (i : ℕ) → i < n → recordAt (fileOf l) i ≡ getD l i []
   record-is i h =
@@ -225,6 +231,7 @@ module _ (l : List (List ℕ)) (few : length l ≤ 512) (fits : length (fileOf l
 
   pub reads-again : ReadsAgain l
   reads-again = record {
+    tight = file-tight;
     sound = check-good;
     count = count-is;
     each = record-is;

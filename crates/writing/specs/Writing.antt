@@ -7,6 +7,7 @@ use lib.Dec.{ltb, leb}
 use lib.ListN.{length, getD}
 use Rattle.file.specs.Lists.{upTo, onto, putAt}
 use Rattle.file.specs.Pairs.{countOf, checkFile, recordAt, recordsOf}
+use Rattle.file.specs.Tight.{tightFile}
 use Rattle.file.specs.declared.Refusal.{Refusal}
 use Rattle.file.specs.declared.Refusal.the-variants.{TooManyRecords, ShortBuffer}
 use Rattle.file.specs.declared.FileCheck.the-variants.{Sound}
@@ -18,7 +19,8 @@ unfoldable pub bytesOf : ℕ → ℕ → List ℕ
 bytesOf zero x = []
 bytesOf (suc k) x = x % 256 ∷ bytesOf k (x / 256)
 
--- "Then n pairs (offset, length), 2 bytes each": of these records, the first at offset a, "each later one is the previous offset plus its length"
+-- "Then n pairs (offset, length), 2 bytes each": of these records, the first at offset a, "each later one is the
+-- previous offset plus its length"
 unfoldable pub pairsFrom : ℕ → List (List ℕ) → List ℕ
 pairsFrom a [] = []
 pairsFrom a (b ∷ l) = bytesOf 2 a ++ (bytesOf 2 (length b) ++ pairsFrom (a + length b) l)
@@ -50,8 +52,9 @@ gatesOf n ends masks = map (gateAt ends masks) (upTo n)
 
 -- ---- read again
 
--- the file has these records and no others
+-- the file has no slack, passes the check, and has these records and no others
 pub record ReadsAgain (l : List (List ℕ)) : Type 0 where
+  pub tight : tightFile (fileOf l) ≡ Sound
   pub sound : checkFile (fileOf l) ≡ Sound
   pub count : countOf (fileOf l) ≡ length l
   pub each : (i : ℕ) → i < length l → recordAt (fileOf l) i ≡ getD l i []

@@ -36,7 +36,8 @@ fn put_gates(n: usize, ends: &[bool; 512], masks: &[u64; 512], out: &mut [u8])
     }
 }
 
-// The file of n gates at the buffer's start, 2 + 18n bytes: gate i has end i, true for the front, and mask i. Refused 2 for n over 512, then 10.
+// The file of n gates at the buffer's start, 2 + 18n bytes: gate i has end i, true for the front, and mask i. Refused 2
+// for n over 512, then 10.
 pub fn write_gates(n: usize, ends: &[bool; 512], masks: &[u64; 512], out: &mut [u8]) -> Written
     ensures { λ r. ⌜ record { answer = r; buffer = now (out .exit) }
         ≡ writeFile (gatesOf n (now (ends .entry)) (now (masks .entry))) (now (out .entry)) ⌝ }

@@ -1,5 +1,6 @@
-// Circuit files written from records: fields and records at a position of a lent buffer, and a whole file of gates, without slack. What is written
-// reads again to the same records (specs/Writing.antt, FileReads). Every public function is total.
+// Circuit files written from records: fields and records at a position of a lent buffer, and a whole file of gates,
+// without slack. A file of records reads again to just those records (specs/Writing.antt, FileReads). Every public
+// function is total.
 mod fields;
 mod gates;
 
