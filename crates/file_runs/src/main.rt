@@ -389,15 +389,12 @@ fn zero_records(n: usize) -> [u8; 9237]
     requires { ⌜ n ≤ 513 ⌝ }
 {
     let mut file = [0u8; 9237];
-    file[0] = (n % 256) as u8;
-    file[1] = (n / 256) as u8;
+    writing::put_u16(&mut file, 0, n as u16);
     let mut k: usize = 0;
     while k < n {
-        let at = 2 + 4 * k;
         let offset = 2 + 4 * n + 14 * k;
-        file[at] = (offset % 256) as u8;
-        file[at + 1] = (offset / 256 % 256) as u8;
-        file[at + 2] = 14;
+        writing::put_u16(&mut file, 2 + 4 * k, offset as u16);
+        writing::put_u16(&mut file, 4 + 4 * k, 14);
         k += 1;
     }
     file
@@ -560,14 +557,10 @@ fn print_lists() {
 fn two_parts(first: u16, first_length: u16, second: u16, second_length: u16) -> [u8; 131070] {
     let mut file = [0u8; 131070];
     file[0] = 2;
-    file[2] = (first % 256) as u8;
-    file[3] = (first / 256) as u8;
-    file[4] = (first_length % 256) as u8;
-    file[5] = (first_length / 256) as u8;
-    file[6] = (second % 256) as u8;
-    file[7] = (second / 256) as u8;
-    file[8] = (second_length % 256) as u8;
-    file[9] = (second_length / 256) as u8;
+    writing::put_u16(&mut file, 2, first);
+    writing::put_u16(&mut file, 4, first_length);
+    writing::put_u16(&mut file, 6, second);
+    writing::put_u16(&mut file, 8, second_length);
     file
 }
 

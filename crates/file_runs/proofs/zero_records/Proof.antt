@@ -1,35 +1,28 @@
 -- `file_runs::zero_records` meets its contract. Assumes nothing.
+use mathlib.Core.Path.{_≡_}
 use Prim.Native.Nat.{_-_, _≤_}
+use lib.ListN.{length}
 use borrow.Author.Needs.{needs}
 use Rattle.file_runs.proofs.zero_records.Statement.{statement}
 use Rattle.file_runs.proofs.zero_records.Tie as tie
 
 abbrev Inv-loop : tie.InvT-loop
-Inv-loop n file₀ k₀ file k = k ≤ n
+Inv-loop n file₀ k₀ file k = (k ≤ n) × (length file ≡ 9237)
 
 abbrev μ-loop : tie.MeasureT-loop
 μ-loop n file₀ k₀ file k = n - k
 
-cast-file : tie.Need-cast-file Inv-loop μ-loop
-cast-file c = search needs
+slice-aggregate-put-u16 : tie.Need-slice-aggregate-put-u16 Inv-loop μ-loop
+slice-aggregate-put-u16 c = search needs
 
-array-write-file : tie.Need-array-write-file Inv-loop μ-loop
-array-write-file c = search needs
+cast-put-u16 : tie.Need-cast-put-u16 Inv-loop μ-loop
+cast-put-u16 c = search needs
 
-cast-file-2 : tie.Need-cast-file-2 Inv-loop μ-loop
-cast-file-2 c = search needs
-
-array-write-file-2 : tie.Need-array-write-file-2 Inv-loop μ-loop
-array-write-file-2 c = search needs
+put-u16-requires : tie.Need-put-u16-requires Inv-loop μ-loop
+put-u16-requires c κs = search needs
 
 loop-holds : tie.Need-loop-holds Inv-loop μ-loop
 loop-holds c = search needs
-
-mul-at : tie.Need-mul-at Inv-loop μ-loop
-mul-at c = search needs
-
-add-at : tie.Need-add-at Inv-loop μ-loop
-add-at c = search needs
 
 mul-offset : tie.Need-mul-offset Inv-loop μ-loop
 mul-offset c = search needs
@@ -43,26 +36,32 @@ mul-offset-2 c = search needs
 add-offset-2 : tie.Need-add-offset-2 Inv-loop μ-loop
 add-offset-2 c = search needs
 
-cast-file-3 : tie.Need-cast-file-3 Inv-loop μ-loop
-cast-file-3 c = search needs
+slice-aggregate-put-u16-2 : tie.Need-slice-aggregate-put-u16-2 Inv-loop μ-loop
+slice-aggregate-put-u16-2 c = search needs
 
-array-write-file-3 : tie.Need-array-write-file-3 Inv-loop μ-loop
-array-write-file-3 c = search needs
+mul-put-u16 : tie.Need-mul-put-u16 Inv-loop μ-loop
+mul-put-u16 c = search needs
 
-cast-file-4 : tie.Need-cast-file-4 Inv-loop μ-loop
-cast-file-4 c = search needs
+add-put-u16 : tie.Need-add-put-u16 Inv-loop μ-loop
+add-put-u16 c = search needs
 
-add-file : tie.Need-add-file Inv-loop μ-loop
-add-file c = search needs
+cast-put-u16-2 : tie.Need-cast-put-u16-2 Inv-loop μ-loop
+cast-put-u16-2 c = search needs
 
-array-write-file-4 : tie.Need-array-write-file-4 Inv-loop μ-loop
-array-write-file-4 c = search needs
+put-u16-requires-2 : tie.Need-put-u16-requires-2 Inv-loop μ-loop
+put-u16-requires-2 c κs = search needs
 
-add-file-2 : tie.Need-add-file-2 Inv-loop μ-loop
-add-file-2 c = search needs
+slice-aggregate-put-u16-3 : tie.Need-slice-aggregate-put-u16-3 Inv-loop μ-loop
+slice-aggregate-put-u16-3 c = search needs
 
-array-write-file-5 : tie.Need-array-write-file-5 Inv-loop μ-loop
-array-write-file-5 c = search needs
+mul-put-u16-2 : tie.Need-mul-put-u16-2 Inv-loop μ-loop
+mul-put-u16-2 c = search needs
+
+add-put-u16-2 : tie.Need-add-put-u16-2 Inv-loop μ-loop
+add-put-u16-2 c = search needs
+
+put-u16-requires-3 : tie.Need-put-u16-requires-3 Inv-loop μ-loop
+put-u16-requires-3 c κs = search needs
 
 add-k : tie.Need-add-k Inv-loop μ-loop
 add-k c = search needs
@@ -82,24 +81,23 @@ zero-records-spec =
     (tie.spec
     Inv-loop
     μ-loop
-    cast-file
-    array-write-file
-    cast-file-2
-    array-write-file-2
+    slice-aggregate-put-u16
+    cast-put-u16
+    put-u16-requires
     loop-holds
-    mul-at
-    add-at
     mul-offset
     add-offset
     mul-offset-2
     add-offset-2
-    cast-file-3
-    array-write-file-3
-    cast-file-4
-    add-file
-    array-write-file-4
-    add-file-2
-    array-write-file-5
+    slice-aggregate-put-u16-2
+    mul-put-u16
+    add-put-u16
+    cast-put-u16-2
+    put-u16-requires-2
+    slice-aggregate-put-u16-3
+    mul-put-u16-2
+    add-put-u16-2
+    put-u16-requires-3
     add-k
     loop-less
     loop-again
