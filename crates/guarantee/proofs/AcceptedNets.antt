@@ -201,7 +201,8 @@ module _ (farAll : Bool) (g : CircuitDag) (l : List Accepted) (T : Built farAll 
   net-new : netOf farAll l′ ≡ insert farAll (netOf farAll l) (callAt (front s) s)
   net-new = net-snoc farAll l o ∙ ap (λ (t : List ℕ). insert farAll (netOf farAll l) (callAt (front t) t)) is-bytes
 
-  grown-between : (b : Bool) (p : ℤ) → between (g .backs) (g .fronts) p ≡ true → between (grownAt (ruleOf farAll) b g s .backs) (grownAt (ruleOf farAll) b g s .fronts) p ≡ true
+  grown-between : (b : Bool) (p : ℤ) → between (g .backs) (g .fronts) p ≡ true
+      → between (grownAt (ruleOf farAll) b g s .backs) (grownAt (ruleOf farAll) b g s .fronts) p ≡ true
   grown-between true p h = between-front (g .backs) (g .fronts) p h
   grown-between false p h = between-back (g .backs) (g .fronts) p h
 

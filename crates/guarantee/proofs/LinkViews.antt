@@ -25,7 +25,8 @@ use Rattle.links.proofs.LinkLaws.{addPresent, linkOne, ascend-distinct, steady-
 use Rattle.graph.proofs.ListLaws.{all-same}
 use Rattle.walk.proofs.Bounds.{any, any-intro, any-elim, any-and, and-any, any-ext, any-none, none-any}
 use Rattle.walk.proofs.BlockSteps.{any-list, not-empty, empty-not}
-use Rattle.guarantee.proofs.Nets.{Net, Take, nothing, every, these, is, orElse as else, present as isSome, or, source as sourceIn, far as farIn, backThese}
+use Rattle.guarantee.proofs.Nets.{Net, Take, nothing, every, these, is}
+use Rattle.guarantee.proofs.Nets.{orElse as else, present as isSome, or, source as sourceIn, far as farIn, backThese}
 use Rattle.guarantee.proofs.Nets.{backEvery, backNothing, back, noQubits}
 
 -- ---- an entry that may be absent

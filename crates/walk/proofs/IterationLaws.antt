@@ -18,7 +18,8 @@ use Rattle.queries.proofs.BufferLaws.{keep-low}
 use Rattle.graph.proofs.ListLaws.{all-same}
 use Rattle.walk.specs.declared.ParallelBlocks.{ParallelBlocks}
 use Rattle.walk.specs.declared.NextBlock.the-variants.{Block, None}
-use Rattle.walk.specs.Blocks.{marks, start, unstarted, joined, followers, nextBlock, nextState, Stepped, steps, next, blocks, numberFrom, Walked, stateAfter, blockOfStep}
+use Rattle.walk.specs.Blocks.{marks, start, unstarted, joined, followers, nextBlock, nextState}
+use Rattle.walk.specs.Blocks.{Stepped, steps, next, blocks, numberFrom, Walked, stateAfter, blockOfStep}
 use Rattle.walk.specs.Steps.{nextCall, entryOf, Iterated, NextIterated}
 use Rattle.walk.proofs.Bounds.{any-intro}
 use Rattle.walk.proofs.Heights.{Walk, empty, block, done, stays-busy}
