@@ -1,6 +1,6 @@
 #!/usr/bin/env python3
-"""The answers that document 01's "Circuit file", with K1's rule of the pairs and K3's longest register list, gives to the files of crates/file_runs,
-read from the documents alone.
+"""The answers that document 01's "Circuit file", with K1's rule of the pairs, K2's refusal of empty sets and K3's longest register list, gives to the
+files of crates/file_runs, read from the documents alone.
 
 Prints what crates/file_runs/stdout must hold:  python3 tools/file_answers.py | diff - crates/file_runs/stdout
 With the argument --rust it prints the small good file and the one with slack as the arrays of crates/file_runs/src/main.rt."""
@@ -68,6 +68,11 @@ def keeps_rule(r):
     return len(r) == {0: 14, 1: 15, 2: 15, 4: 17}[r[11]]
 
 
+def empty_set(r):
+    """K2: "a Set with mask zero"."""
+    return r[2] == 2 and not any(r[3:11])
+
+
 def part(s, i):
     at = number(s, 2 + 4 * i, 2)
     return s[at:at + number(s, 4 + 4 * i, 2)]
@@ -81,6 +86,8 @@ def parse_all(s):
     for i in range(number(s, 0, 2)):
         if not keeps_rule(part(s, i)):
             return (4, i)
+        if empty_set(part(s, i)):
+            return (12, i)
     return None
 
 

@@ -1,12 +1,14 @@
 #!/usr/bin/env python3
-"""What document 01, with K1's rule of the pairs and K3's longest register list, answers for the files of crates/blocks_runs, blocks_long, blocks_slack,
-limits, query_runs and step_runs, computed from the documents alone.
+"""What document 01, with K1's rule of the pairs, K2's refusal of empty sets and K3's longest register list, answers for the files of crates/blocks_runs,
+blocks_long, blocks_slack, limits, empty_set_runs, query_runs and step_runs, computed from the documents alone.
 
   graph_answers.py stdin | diff - crates/blocks_runs/stdin      the files, each behind its length in two bytes
   graph_answers.py stdout | diff - crates/blocks_runs/stdout    what `blocks` prints for each
   graph_answers.py long-file | diff - crates/blocks_long/stdin  a file over 65,536 bytes whose last part ends one byte beyond them
   graph_answers.py slack-file | diff - crates/blocks_slack/stdin  .. and one whose last part ends just there
   graph_answers.py limits | diff - crates/limits/stdout
+  graph_answers.py empty-set-files | diff - crates/empty_set_runs/stdin  the same for crates/empty_set_runs
+  graph_answers.py empty-sets | diff - crates/empty_set_runs/stdout
   graph_answers.py query-files | diff - crates/query_runs/stdin  the same for crates/query_runs
   graph_answers.py queries | diff - crates/query_runs/stdout
   graph_answers.py query-files | diff - crates/step_runs/stdin   and for crates/step_runs
@@ -15,7 +17,7 @@ limits, query_runs and step_runs, computed from the documents alone.
 import sys
 
 from circuit import circuit_file, parse
-from file_answers import check, entries, keeps_rule, number, part, record
+from file_answers import check, empty_set, entries, keeps_rule, number, part, record
 
 
 class Refused(Exception):
@@ -80,6 +82,8 @@ class Graph:
     def insert(self, r, i=0):
         if not keeps_rule(r):
             raise Refused(4, i)
+        if empty_set(r):
+            raise Refused(12, i)
         v, end = len(self.places), r[0]
         if v == 512:
             raise Refused(5, 0)
@@ -171,6 +175,23 @@ def load(s):
     return g
 
 
+def convert(s):
+    """From a circuit: 4 for all records first, kinds 1 to 5, then kind 0."""
+    refused = check(s)
+    if refused:
+        raise Refused(*refused)
+    records = [part(s, i) for i in range(number(s, 0, 2))]
+    for i, r in enumerate(records):
+        if not keeps_rule(r) or r[0] == 1:
+            raise Refused(4, i)
+    g = Graph()
+    for ordinary in (False, True):
+        for i, r in enumerate(records):
+            if (r[1] == 0) == ordinary:
+                g.insert(r, i)
+    return g
+
+
 def text(s):
     try:
         found = load(s[:65536]).blocks()
@@ -203,12 +224,16 @@ def one_edge_more():
     return circuit_file([part(layers, i) for i in range(264)] + [record(form=2, mask=1)])
 
 
+# B{} B All
+CASE6 = [record(form=2), record(form=1)]
+
+
 def runs():
     case2 = circuit_file(parse("B{0} B{1} B{0,1}"))
-    bench = ["B All", "B All B{5}", "B{0} B All B All F{3} B{3}", "B{} B All", "F{0} F{0}",
-             "Bit name 1 length 2; Bit name 2 length 1; B None/All name 2; B None/Set (1,0)"]
+    bench = [*map(parse, ["B All", "B All B{5}", "B{0} B All B All F{3} B{3}"]), CASE6,
+             *map(parse, ["F{0} F{0}", "Bit name 1 length 2; Bit name 2 length 1; B None/All name 2; B None/Set (1,0)"])]
     layers, more = gates(264, layers=True), one_edge_more()
-    return ([b"", b"\0", bytes(2), bytes(3), case2] + [circuit_file(parse(c)) for c in bench]                 # the empty file, cases 1 to 7 and 10
+    return ([b"", b"\0", bytes(2), bytes(3), case2] + [circuit_file(c) for c in bench]                        # the empty file, cases 1 to 7 and 10
             + [case2[:k] for k in (13, 14, 42, 55)] + [case2 + b"\0", b"\x01\x02", bytes([0, 2])]            # torn files, one with slack among them
             + [case2[:29] + b"\x06" + case2[30:], circuit_file([record(), b"", record()])]                   # a refused record
             + [layers, more, definition(256), definition(257), gates(512), gates(512, 1)]                    # the limits
@@ -244,7 +269,8 @@ def limits():
                            ("256 entries, 24 keys, none new", measured(256, 232, 24), 1, entry),
                            ("233 entries, 25 keys", measured(233, 233, 25), 1, entry),
                            ("a definition of 232, then 24 keys", definition(232), 0, part(measured(232, 232, 24), 1)),
-                           ("a definition of 233, then 24 keys", definition(233), 0, part(measured(233, 233, 24), 1))]:
+                           ("a definition of 233, then 24 keys", definition(233), 0, part(measured(233, 233, 24), 1)),
+                           ("512 at the back, then an empty set", gates(512), 511, record(form=2))]:
         try:
             g = load(s)
         except Refused as x:
@@ -258,14 +284,51 @@ def limits():
 
 
 def query_files():
-    """Circuits of several blocks at both ends, with definitions, a kind 5, no operation, no record; then files refused 1, 1, 2, 3, 3, 4, 6, 7; then
-    the first circuit with slack, and with its second record beginning in the first."""
+    """Circuits of several blocks at both ends, with definitions, a kind 5, no operation, no record, and case 6, refused 12, before the last; then files
+    refused 1, 1, 2, 3, 3, 4, 6, 7; then the first circuit with slack, and with its second record beginning in the first."""
     texts = ["B{0} B{1} B{0,1}", "B{0} B All B All F{3} B{3}", "B All F{0} F{1} B{0,1} B{2} F{2}", "F{0} F{0} F{0}", "",
-             "Bit name 1 length 2; B{0} kind 5; F Float name 2 length 1; B{1}; F{0} label 7; B None", "B None/All name 2; B None", "B{} B All",
-             "B{0,1} B{0} B{1} B{2,3} B{3} B{1,3} B{0,2} F{0,3} F{1}"]
-    files = [circuit_file(parse(t)) for t in texts]
+             "Bit name 1 length 2; B{0} kind 5; F Float name 2 length 1; B{1}; F{0} label 7; B None", "B None/All name 2; B None"]
+    files = [circuit_file(parse(t)) for t in texts] + [circuit_file(CASE6), circuit_file(parse("B{0,1} B{0} B{1} B{2,3} B{3} B{1,3} B{0,2} F{0,3} F{1}"))]
     return files + [b"\0", files[0][:13], b"\x01\x02", files[0][:55], files[0][:6] + b"\x1d" + files[0][7:], files[0][:30] + b"\3" + files[0][31:],
                     one_edge_more(), definition(257), circuit_file(parse(texts[0]), [b"\xff"] * 4), files[0][:6] + b"\x1b" + files[0][7:]]
+
+
+def empty_set_files():
+    """K2: records without a qubit at both ends, of kinds 0 and 5, with registers and without; what is no empty set, All and None; what is refused 4 before
+    12, kinds 1 to 4 with form Set among them; and, for the conversion, 12 in the order of insertion, behind 7 of a definition and 4 of a later record."""
+    nothing, gate, front, pulse = record(form=2), record(form=2, mask=1), record(end=1, form=2, mask=2), record(form=1)
+    keys = record(form=2, register=3, tail=entries(*[(2, k) for k in range(7)]))
+    five = record(kind=5, form=2, register=1, tail=b"\1")
+    lists = ([CASE6, [gate, nothing], [gate, nothing, gate], [record(end=1, form=2)], [front, record(end=1, kind=5, form=2, register=2, tail=b"\1")],
+              [five], [record(kind=5, form=2)], [keys], [pulse], [record()], [pulse, record(form=2, mask=1 << 63)]]
+             + [[record(kind=k, form=2, register=4, tail=b"\1\1\0")] for k in (1, 2, 3, 4)]
+             + [[record(kind=6, form=2)], [record(end=2, form=2)], [record(form=3)], [record(form=2) + b"\0"], [record(form=2)[:13]],
+                [record(form=2, register=3, tail=b"\1")], [record(form=2, register=5)]]
+             + [[part(definition(250), 0), keys], [nothing, b""], [nothing, part(definition(300), 0)], [nothing, front],
+                [gate, part(definition(2), 0), nothing], [gate, nothing, five], [front, nothing]])
+    return [circuit_file(l) for l in lists]
+
+
+def counts(g):
+    return f", nodes {len(g.places)} edges {len(g.edges)} entries {len(g.registers[1])} {len(g.registers[0])}"
+
+
+def empty_sets():
+    """Each file loaded and converted, its records inserted one by one, and the first again on a graph that is not sound."""
+    for s in empty_set_files():
+        print(f"file of {len(s)} bytes")
+        for title, make in (("load", load), ("from_circuit", convert)):
+            try:
+                print(f"{title} accepted{counts(make(s))}")
+            except Refused as x:
+                print(f"{title} {x}{counts(Graph())}")
+        g = Graph()
+        for i in range(number(s, 0, 2)):
+            try:
+                print(f"insert node {g.insert(part(s, i))}{counts(g)}")
+            except Refused as x:
+                print(f"insert {x}{counts(g)}")
+        print(f"insert {Refused(11)}{counts(g)}")
 
 
 def asked(title, size, buffer, tests, answer):
@@ -400,6 +463,10 @@ def main(words):
         sys.stdout.buffer.write(long_file(65536))
     elif words == ["limits"]:
         limits()
+    elif words == ["empty-set-files"]:
+        sys.stdout.buffer.write(b"".join(len(s).to_bytes(2, "little") + s for s in empty_set_files()))
+    elif words == ["empty-sets"]:
+        empty_sets()
     elif words == ["query-files"]:
         sys.stdout.buffer.write(b"".join(len(s).to_bytes(2, "little") + s for s in query_files()))
     elif words == ["queries"]:

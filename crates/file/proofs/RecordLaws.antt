@@ -1,21 +1,21 @@
 -- A record: what its rule says, its exact length, and the answers of the parser's functions. Assumes nothing.
 use mathlib.Core.Path.{_≡_, refl, sym, ap}
-use mathlib.Core.Bool.{Bool, true, false, cond, _&&_}
+use mathlib.Core.Bool.{Bool, true, false, cond, not, _&&_}
 use mathlib.Core.List.{List, []}
 use mathlib.Core.Logic.{⊎-elim, _⊎_}
 use Prim.Native.Nat.{ℕ, suc, _+_, _*_, _-_, _<_, _≤_}
 use native.Mathlib.Omega.{arith}
 use lib.Dec.{leb, eqb}
 use lib.ListN.{length, getD, List·getD-eq-default}
-use borrow.Author.Tests.{eqb-true, eqb-false, ne-eqb, le-leb, lt-leb, leb-true}
+use borrow.Author.Tests.{eqb-true, eqb-false, ne-eqb, le-leb, lt-leb, leb-true, not-true}
 use Rattle.file.proofs.BoolLaws.{bool-cases, clash-bool, both-true}
 use Rattle.file.specs.Pairs.{numberAt, countOf, checkFile, offsetOf, lengthOf, partOf, pairPlace, recordAt}
-use Rattle.file.specs.Refusals.{atRecord}
+use Rattle.file.specs.Refusals.{numberOf, atRecord}
 use Rattle.file.specs.Records
 use Rattle.file.proofs.PairLaws.{field-past, pair-there}
 use Rattle.file.specs.declared.Refusal.{Refusal}
 use Rattle.file.specs.declared.Refusal.the-variants.{FileTooShort, TooManyRecords, BadPair, BadRecord, TooManyNodes, TooManyEdges}
-use Rattle.file.specs.declared.Refusal.the-variants.{TooManyRegisters, Absent, NotInLayer, ShortBuffer, Unsound}
+use Rattle.file.specs.declared.Refusal.the-variants.{TooManyRegisters, Absent, NotInLayer, ShortBuffer, Unsound, EmptySet}
 use Rattle.file.specs.declared.FileCheck.the-variants.{Sound}
 use Rattle.file.specs.declared.Place.{Place}
 use Rattle.file.specs.declared.Place.the-variants.{At, Refused as NotThere}
@@ -46,6 +46,10 @@ rule s e =
     let d = both-true _ (kindRule s) (b .0) in
     let f = both-true (leb 14 (length s)) (leb (getD s 0 0) 1) (d .0) in
     record { long = leb-true _ _ (f .0); end = leb-true _ _ (f .1); kinds = d .1; qubits = b .1; tail = a .1 }
+
+pub keeps-rule : (s : List ℕ) → Rule s → Records.recordRule s ≡ true
+unfolding Records.recordRule
+keeps-rule s r = rw (le-leb 14 (length s) (r .long), le-leb (getD s 0 0) 1 (r .end), r .kinds, r .qubits, r .tail) refl
 
 -- "The length is exact: 14, 15, 15, 15 + 3c or 17."
 abbrev pub exactLength : InvolvedClassical → ℕ
@@ -115,21 +119,35 @@ at-again i k Absent = refl
 at-again i k NotInLayer = refl
 at-again i k ShortBuffer = refl
 at-again i k Unsound = refl
+at-again i k (EmptySet j) = refl
 
--- a record's own cause is never 11
+-- a record's own cause is 4 exactly where it breaks its rule
+pub cause-breaks : (s : List ℕ) → eqb (numberOf (Records.causeOf s)) 4 ≡ not (Records.recordRule s)
+unfolding Records.causeOf
+cause-breaks s = told (Records.recordRule s)
+  where
+    told : (b : Bool) → eqb (numberOf (cond b (EmptySet 0) (BadRecord 0))) 4 ≡ not b
+    told true = refl
+    told false = refl
+
+-- .. and never 11
 pub cause-known : (s : List ℕ) (i : ℕ) → atRecord i (Records.causeOf s) ≡ Unsound → ⊥
 unfolding Records.causeOf
-cause-known s i e = let z : _≡_ {A = ℕ} 0 1 = cc in omega arith
-
--- a record that is not good breaks its rule
-pub not-good-breaks : (s : List ℕ) → Records.good s ≡ false → Records.recordRule s ≡ false
-unfolding Records.good
-not-good-breaks s e = e
+cause-known s i e = told (Records.recordRule s) e
+  where
+    told : (b : Bool) → atRecord i (cond b (EmptySet 0) (BadRecord 0)) ≡ Unsound → ⊥
+    told true e = let z : _≡_ {A = ℕ} 0 1 = cc in omega arith
+    told false e = let z : _≡_ {A = ℕ} 0 1 = cc in omega arith
 
 -- a good record keeps its rule
 pub good-keeps : (s : List ℕ) → Records.good s ≡ true → Records.recordRule s ≡ true
 unfolding Records.good
-good-keeps s e = e
+good-keeps s e = both-true (Records.recordRule s) (not (Records.emptySet s)) e .0
+
+-- .. and has no empty set
+pub good-some : (s : List ℕ) → Records.good s ≡ true → Records.emptySet s ≡ false
+unfolding Records.good
+good-some s e = not-true (Records.emptySet s) (both-true (Records.recordRule s) (not (Records.emptySet s)) e .1)
 
 pub parsed : (s : List ℕ) (r : Record) → Records.parseRecord s ≡ Parses r → (Records.recordRule s ≡ true) × (r ≡ Records.recordOf s)
 parsed s r e = let p = parsed-good s r e in (good-keeps s (p .0), p .1)
@@ -261,7 +279,14 @@ module _ (s : List ℕ) where
           unfolding Records.parseRecord Records.good Records.causeOf Records.recordRule
           bad-tail e = rw (le-leb 14 (length s) long, le-leb (getD s 0 0) 1 side, k, ← read, q, e) refl
 
-          pub good : (x : InvolvedQubits) (y : InvolvedClassical) (l : ℕ) → Records.tailRule s ≡ true → x ≡ Records.qubitsBy (Records.qubitForm s) m → y ≡ Records.classicalOf s → l ≡ numberAt s 12 2
-              → Parses (record { front = eqb (getD s 0 0) 1; kind = Records.kind s; label = l; qubits = x; classical = y }) ≡ Records.parseRecord s
-          unfolding Records.parseRecord Records.good Records.causeOf Records.recordRule
-          good x y l t e g h = rw (le-leb 14 (length s) long, le-leb (getD s 0 0) 1 side, k, ← read, q, t, e, g, h) refl
+  -- a record that keeps its rule: refused 12, or what it says
+  module _ (keeps : Records.recordRule s ≡ true) where
+    pub empty-set : Records.emptySet s ≡ true → Refused (EmptySet 0) ≡ Records.parseRecord s
+    unfolding Records.parseRecord Records.good Records.causeOf
+    empty-set z = rw (keeps, z) refl
+
+    pub good : Records.emptySet s ≡ false → (x : InvolvedQubits) (y : InvolvedClassical) (l : ℕ)
+        → x ≡ Records.qubitsOf s → y ≡ Records.classicalOf s → l ≡ Records.label s
+        → Parses (record { front = Records.front s; kind = Records.kind s; label = l; qubits = x; classical = y }) ≡ Records.parseRecord s
+    unfolding Records.parseRecord Records.good
+    good z x y l e g h = rw (keeps, z, e, g, h) refl

@@ -1,4 +1,4 @@
--- "A record", by the sentences of document 01 and of K3 on its bytes. Assumes nothing.
+-- "A record", by the sentences of document 01, K2 and K3 on its bytes. Assumes nothing.
 use mathlib.Core.Bool.{Bool, true, false, cond, not, _&&_, _||_}
 use mathlib.Core.List.{List}
 use Prim.Native.Nat.{ℕ, zero, suc, _+_, _*_, _-_}
@@ -7,7 +7,7 @@ use lib.ListN.{length, getD}
 use Rattle.file.specs.Pairs.{numberAt, pairPlace, partOf}
 use Rattle.file.specs.Refusals.{atRecord}
 use Rattle.file.specs.declared.Refusal.{Refusal}
-use Rattle.file.specs.declared.Refusal.the-variants.{BadRecord}
+use Rattle.file.specs.declared.Refusal.the-variants.{BadRecord, EmptySet}
 use Rattle.file.specs.declared.Place.{Place}
 use Rattle.file.specs.declared.Place.the-variants.{At, Refused as NotThere}
 use Rattle.file.specs.declared.RegisterKey.{RegisterKey}
@@ -71,7 +71,7 @@ defines k = leb 1 k && leb k 4
 unfoldable pub definitionRule : ℕ → ℕ → ℕ → Bool
 definitionRule k q r = cond (defines k) (eqb r 4 && eqb q 0) (not (eqb r 4))
 
--- "64-bit mask .. zero unless Set; a Set may be zero"
+-- "64-bit mask .. zero unless Set; a Set may be zero": such a Set breaks no rule, and is refused 12 (`emptySet` below)
 unfoldable pub qubitRule : ℕ → ℕ → Bool
 qubitRule q m = leb q 2 && (eqb q 2 || eqb m 0)
 
@@ -152,13 +152,18 @@ keyAt s k = record { name = entryName s k; index = entryIndex s k }
 abbrev pub recordOf : List ℕ → Record
 recordOf s = record { front = front s; kind = kind s; label = label s; qubits = qubitsOf s; classical = classicalOf s }
 
--- a record that is taken as far as it alone decides: it keeps its rule
-unfoldable pub good : List ℕ → Bool
-good s = recordRule s
+-- "only a Set with mask zero is an empty set"
+abbrev pub emptySet : List ℕ → Bool
+emptySet s = eqb (qubitForm s) 2 && eqb (mask s) 0
 
--- why one that is not good is refused: "a record breaks its rule | 4 | number, record (0 on insertion)"
+-- a record that is taken as far as it alone decides: it keeps its rule, and (K2) has no empty set
+unfoldable pub good : List ℕ → Bool
+good s = recordRule s && not (emptySet s)
+
+-- why one that is not good is refused: "a record breaks its rule | 4 | number, record (0 on insertion)"; K2: "12, a Set with mask zero, checked after
+-- 4 and before 5; it returns and leaves what 4 does"
 unfoldable pub causeOf : List ℕ → Refusal
-causeOf s = BadRecord 0
+causeOf s = cond (recordRule s) (EmptySet 0) (BadRecord 0)
 
 -- what a record's bytes say, or why they are refused
 unfoldable pub parseRecord : List ℕ → Parsed

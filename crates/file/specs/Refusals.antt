@@ -4,7 +4,7 @@ use Rattle.file.specs.declared.Refusal.{Refusal}
 use Rattle.file.specs.declared.RefusalValue.{RefusalValue}
 use Rattle.file.specs.declared.RefusalValue.the-variants.{Nothing, At}
 use Rattle.file.specs.declared.Refusal.the-variants.{FileTooShort, TooManyRecords, BadPair, BadRecord, TooManyNodes, TooManyEdges}
-use Rattle.file.specs.declared.Refusal.the-variants.{TooManyRegisters, Absent, NotInLayer, ShortBuffer, Unsound}
+use Rattle.file.specs.declared.Refusal.the-variants.{TooManyRegisters, Absent, NotInLayer, ShortBuffer, Unsound, EmptySet}
 
 -- "| cause | number |"
 abbrev pub numberOf : Refusal → ℕ
@@ -19,6 +19,7 @@ numberOf Absent = 8  -- "node absent, also in a walk's current set; record to be
 numberOf NotInLayer = 9  -- "node not in the given layer"
 numberOf ShortBuffer = 10  -- "buffer shorter than the answer"
 numberOf Unsound = 11  -- "graph isn't sound"
+numberOf (EmptySet i) = 12  -- K2: "a Set with mask zero"
 
 -- "| returned |": "number, first such pair", "number, record", "number, 0", or the number alone
 abbrev pub valueOf : Refusal → RefusalValue
@@ -33,6 +34,7 @@ valueOf Absent = Nothing
 valueOf NotInLayer = Nothing
 valueOf ShortBuffer = Nothing
 valueOf Unsound = Nothing
+valueOf (EmptySet i) = At i  -- K2: "it returns and leaves what 4 does"
 
 -- a refusal that a record gets by itself, "record (0 on insertion)", with the record's number in its file
 abbrev pub atRecord : ℕ → Refusal → Refusal
@@ -47,3 +49,4 @@ atRecord i Absent = Absent
 atRecord i NotInLayer = NotInLayer
 atRecord i ShortBuffer = ShortBuffer
 atRecord i Unsound = Unsound
+atRecord i (EmptySet k) = EmptySet i

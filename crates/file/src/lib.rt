@@ -1,5 +1,6 @@
-// The circuit file of document 01, with K1's pairs and K3's longest list: header and pairs, the record reader, the
-// record parser, and the causes of refusal of every crate. The rules are in specs/, a file for each module.
+// The circuit file of document 01, with K1's pairs, K2's refusal of empty sets and K3's longest list: header and pairs,
+// the record reader, the record parser, and the causes of refusal of every crate. The rules are in specs/, a file for
+// each module.
 mod pairs;
 mod records;
 mod refusals;
@@ -37,6 +38,7 @@ pub enum Refusal {
     NotInLayer,
     ShortBuffer,
     Unsound,
+    EmptySet(usize),
 }
 
 // What a refusal returns beside its number: nothing, or the pair or record that it is about.

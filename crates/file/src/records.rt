@@ -2,7 +2,7 @@
 ghost use mathlib.Core.Path.{_≡_};
 ghost use mathlib.Core.Bool.{true, _&&_};
 ghost use Prim.Native.Nat.{_+_, _*_, _-_, _<_, _≤_};
-ghost use lib.Dec.{leb};
+ghost use lib.Dec.{eqb, leb};
 ghost use lib.ListN.{length};
 ghost use Rattle.file.specs.Pairs.{numberAt};
 ghost use Rattle.file.specs.Records.{definitionRule, qubitRule, entryBefore, ascendFrom, setRule, tailRule, parseRecord, qubitsBy, classicalOf};
@@ -61,6 +61,13 @@ fn qubits_fit(form: u8, mask: u64) -> bool
         2 => true,
         _ => false,
     }
+}
+
+// A Set with mask zero.
+fn is_empty_set(form: u8, mask: u64) -> bool
+    ensures { λ r. ⌜ r ≡ (eqb form 2 && eqb mask 0) ⌝ }
+{
+    form == 2 && mask == 0
 }
 
 // Entry k comes before the next one: by name, then index.
@@ -160,7 +167,7 @@ pub fn involved_classical(part: &[u8]) -> InvolvedClassical
     }
 }
 
-// A record by its bytes alone, or cause 4; the caller knows which record of its file it is.
+// A record by its bytes alone, or cause 4, then 12; the caller knows which record of its file it is.
 pub fn parse_record(part: &[u8]) -> Parsed
     ensures { λ r. ⌜ r ≡ parseRecord (now (part .entry)) ⌝ }
 {
@@ -183,12 +190,19 @@ pub fn parse_record(part: &[u8]) -> Parsed
     if !tail_fits(part) {
         return Parsed::Refused(Refusal::BadRecord(0));
     }
+    let label = read_u16(part, 12) as u16;
+    let qubits = involved_qubits(form, mask);
+    let classical = involved_classical(part);
+    // Behind the fields: behind six tests the compiler would take the calls above for rare and not inline them.
+    if is_empty_set(form, mask) {
+        return Parsed::Refused(Refusal::EmptySet(0));
+    }
     Parsed::Record(Record {
         front: end == 1,
         kind,
-        label: read_u16(part, 12) as u16,
-        qubits: involved_qubits(form, mask),
-        classical: involved_classical(part),
+        label,
+        qubits,
+        classical,
     })
 }
 

@@ -4,7 +4,7 @@ ghost use Rattle.file.specs.Refusals.{numberOf, valueOf, atRecord};
 use crate::Refusal;
 use crate::RefusalValue;
 
-// The number of a cause, 1 to 11.
+// The number of a cause, 1 to 12.
 pub fn refusal_number(r: Refusal) -> u8
     ensures { λ n. ⌜ n ≡ numberOf r ⌝ }
 {
@@ -20,6 +20,7 @@ pub fn refusal_number(r: Refusal) -> u8
         Refusal::NotInLayer => 9,
         Refusal::ShortBuffer => 10,
         Refusal::Unsound => 11,
+        Refusal::EmptySet(_) => 12,
     }
 }
 
@@ -39,6 +40,7 @@ pub fn refusal_value(r: Refusal) -> RefusalValue
         Refusal::NotInLayer => RefusalValue::Nothing,
         Refusal::ShortBuffer => RefusalValue::Nothing,
         Refusal::Unsound => RefusalValue::Nothing,
+        Refusal::EmptySet(i) => RefusalValue::At(i),
     }
 }
 
@@ -58,5 +60,6 @@ pub fn at_record(i: usize, r: Refusal) -> Refusal
         Refusal::NotInLayer => Refusal::NotInLayer,
         Refusal::ShortBuffer => Refusal::ShortBuffer,
         Refusal::Unsound => Refusal::Unsound,
+        Refusal::EmptySet(_) => Refusal::EmptySet(i),
     }
 }

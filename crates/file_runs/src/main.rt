@@ -260,8 +260,8 @@ fn parse_records(file: &[u8]) -> FileCheck {
     let mut k: usize = 0;
     while k < n {
         let parsed = file::parse_record(read_bytes(file, k));
-        if let Parsed::Refused(_) = parsed {
-            return FileCheck::Refused(Refusal::BadRecord(k));
+        if let Parsed::Refused(cause) = parsed {
+            return FileCheck::Refused(file::at_record(k, cause));
         }
         k += 1;
     }
@@ -289,7 +289,7 @@ fn wide(x: u8) -> usize
 // A slot for each answer on files of seven records: 0 for acceptance, else 8 times the number plus the pair or record, 7 where
 // there is none.
 fn slot(answer: FileCheck) -> usize
-    ensures { λ r. ⌜ r < 96 ⌝ }
+    ensures { λ r. ⌜ r < 104 ⌝ }
 {
     match answer {
         FileCheck::Sound => 0,
@@ -297,8 +297,8 @@ fn slot(answer: FileCheck) -> usize
             let value = file::refusal_value(r);
             let number = wide(file::refusal_number(r));
             match value {
-                RefusalValue::Nothing => (number * 8 + 7) % 96,
-                RefusalValue::At(i) => (number * 8 + i % 8) % 96,
+                RefusalValue::Nothing => (number * 8 + 7) % 104,
+                RefusalValue::At(i) => (number * 8 + i % 8) % 104,
             }
         }
     }
@@ -317,9 +317,9 @@ fn print_answer(number: usize, at: usize) {
     }
 }
 
-fn print_counts(counts: [u32; 96]) {
+fn print_counts(counts: [u32; 104]) {
     let mut k: usize = 0;
-    while k < 96 {
+    while k < 104 {
         let times = counts[k];
         if times != 0 {
             print_answer(k / 8, k % 8);
@@ -332,8 +332,8 @@ fn print_counts(counts: [u32; 96]) {
 }
 
 // Adds one to a count; the runs stay far below its width.
-fn count_one(counts: &mut [u32; 96], k: usize)
-    requires { ⌜ k < 96 ⌝ }
+fn count_one(counts: &mut [u32; 104], k: usize)
+    requires { ⌜ k < 104 ⌝ }
 {
     let old = counts[k];
     if old < 1000000 {
@@ -343,7 +343,7 @@ fn count_one(counts: &mut [u32; 96], k: usize)
 
 // The slot of a file's answer: parsed, or record i read.
 fn answer_of(file: &[u8], parsed: bool, i: usize) -> usize
-    ensures { λ r. ⌜ r < 96 ⌝ }
+    ensures { λ r. ⌜ r < 104 ⌝ }
 {
     if parsed {
         return slot(parse_all(file));
@@ -351,9 +351,9 @@ fn answer_of(file: &[u8], parsed: bool, i: usize) -> usize
     slot(read(file, i))
 }
 
-fn count_prefixes(parsed: bool, i: usize) -> [u32; 96] {
+fn count_prefixes(parsed: bool, i: usize) -> [u32; 104] {
     let file = GOOD;
-    let mut counts = [0u32; 96];
+    let mut counts = [0u32; 104];
     let start: usize = 0;
     let mut n: usize = 0;
     while n <= 141 {
@@ -364,7 +364,7 @@ fn count_prefixes(parsed: bool, i: usize) -> [u32; 96] {
 }
 
 // The good file with byte b at a place, where that is another byte.
-fn count_change(at: usize, b: u8, parsed: bool, counts: &mut [u32; 96])
+fn count_change(at: usize, b: u8, parsed: bool, counts: &mut [u32; 104])
     requires { ⌜ at < 141 ⌝ }
 {
     let mut file = GOOD;
@@ -374,8 +374,8 @@ fn count_change(at: usize, b: u8, parsed: bool, counts: &mut [u32; 96])
     }
 }
 
-fn count_changes(parsed: bool) -> [u32; 96] {
-    let mut counts = [0u32; 96];
+fn count_changes(parsed: bool) -> [u32; 104] {
+    let mut counts = [0u32; 104];
     let mut k: usize = 0;
     while k < 36096 {
         count_change(k / 256, (k % 256) as u8, parsed, &mut counts);

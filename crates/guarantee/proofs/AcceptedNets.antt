@@ -14,10 +14,11 @@ use lib.ListN.{length, getD, length-append, length-map, List·getD-append, List�
 use lib.Seq.{getD-append-add}
 use borrow.Author.Tests.{eq-eqb, ne-eqb, ltb-true, lt-ltb, le-ltb, leb-false}
 use Rattle.file.specs.Lists.{anyOf, allOf, countFrom}
-use Rattle.file.specs.Records.{front, recordRule, qubitsBy, qubitsOf}
+use Rattle.file.specs.Records.{front, recordRule, qubitsBy, qubitsOf, emptySet, good}
 use Rattle.file.specs.declared.Refusal.{Refusal}
+use Rattle.file.specs.declared.Refusal.the-variants.{Unsound}
 use Rattle.file.specs.Refusals.{atRecord}
-use Rattle.file.proofs.RecordLaws.{good-keeps}
+use Rattle.file.proofs.RecordLaws.{good-keeps, good-some}
 use Rattle.graph.specs.declared.CircuitDag.{CircuitDag}
 use Rattle.graph.specs.Dag.{absent, empty, noEnd, node, size}
 use Rattle.graph.specs.Soundness.{sound}
@@ -32,8 +33,8 @@ use Rattle.insertion.specs.Calls.{Call as Insertion, graphAfter, built as built
 use Rattle.graph.proofs.ListLaws.{all-same}
 use Rattle.insertion.proofs.SafeEdges.{between}
 use Rattle.insertion.proofs.CaseLaws.{insert-cases}
-use Rattle.insertion.proofs.BuiltLaws.{Safe, safe-sound, safe-empty, safe-insert}
-use Rattle.guarantee.specs.Guarantee.{Accepted, acceptedFrom, accepted, Bytes}
+use Rattle.insertion.proofs.BuiltLaws.{Safe, safe-empty, safe-insert}
+use Rattle.guarantee.specs.Guarantee.{Accepted, acceptedFrom, accepted, NoEmptySet, Bytes}
 use Rattle.guarantee.proofs.LinkViews.{takeBy}
 use Rattle.guarantee.proofs.GrownViews.{Seen, grown-at, callAt, grown-seen}
 use Rattle.guarantee.proofs.Nets.{Net, Take, nothing, every, these, Call, flip, back, insert, run, ranks, empty as emptyNet}
@@ -242,11 +243,13 @@ module _ (farAll : Bool) (g : CircuitDag) (l : List Accepted) (T : Built farAll 
 -- ---- an insertion, and a list of them
 
 module _ (rule : LoadingRule) (g : CircuitDag) (s : List ℕ) where
-  insert-told : sound g ≡ true → (P : Inserted → Type 0) → ((r : Refusal) → P (refused r g))
-      → (recordRule s ≡ true → size g < 512 → P (record { answer = Node (node (size g)); graph = grown (ruleOf rule) g s })) → P (insertBy rule g s)
+  insert-told : (P : Inserted → Type 0) → ((r : Refusal) → P (refused r g))
+      → (good s ≡ true → size g < 512 → P (record { answer = Node (node (size g)); graph = grown (ruleOf rule) g s })) → P (insertBy rule g s)
   unfolding insertBy
-  insert-told h P p q = rw h
-      (insert-cases (ruleOf rule) g s 0 P (λ r c. p (atRecord 0 r)) (λ t. q (good-keeps s (t .whole)) (leb-false 512 (size g) (t .free))))
+  insert-told P p q = ⊎-elim
+      (λ (h : sound g ≡ true). rw h (insert-cases (ruleOf rule) g s 0 P (λ r c. p (atRecord 0 r)) (λ t. q (t .whole) (leb-false 512 (size g) (t .free)))))
+      (λ (h : sound g ≡ false). rw h (p Unsound))
+      (bool-cases (sound g))
 
 -- the accepted records of s ∷ l, by what the insertion of s gave
 abbrev acceptStep : ℕ → ℕ → List ℕ → List Insertion → Inserted → List Accepted
@@ -255,11 +258,26 @@ acceptStep b f s l x = elim (x .answer) [
   | Refused r ↦ acceptedFrom (x .graph) b f l
 ]
 
+-- no accepted record has an empty set, by whatever rules they come in
+none-empty : (l : List Insertion) (g : CircuitDag) (b f : ℕ) → anyOf (λ (o : Accepted). emptySet (o .bytes)) (acceptedFrom g b f l) ≡ false
+unfolding acceptedFrom anyOf
+none-empty [] g b f = refl
+none-empty (c ∷ l) g b f = insert-told (c .rule) g s
+    (λ x. anyOf (λ (o : Accepted). emptySet (o .bytes)) (acceptStep b f s l x) ≡ false)
+    (λ r. none-empty l g b f)
+    (λ k low. rw (good-some s k, anyOf) (none-empty l (grown (ruleOf (c .rule)) g s) (cond (front s) b (b + 1)) (cond (front s) (f + 1) f)))
+  where
+    s : List ℕ
+    s = c .bytes
+
+pub no-empty-set : NoEmptySet
+no-empty-set l = none-empty l empty 0 0
+
 -- a node for each accepted record, by whatever rules they come in
 count-from : (l : List Insertion) (g : CircuitDag) (b f : ℕ) → Safe false g → size (graphAfter g l) ≡ size g + length (acceptedFrom g b f l)
 unfolding graphAfter acceptedFrom
 count-from [] g b f G = omega arith
-count-from (c ∷ l) g b f G = insert-told (c .rule) g s (safe-sound g G)
+count-from (c ∷ l) g b f G = insert-told (c .rule) g s
     (λ x. Safe false (x .graph) → size (graphAfter (x .graph) l) ≡ size g + length (acceptStep b f s l x))
     (λ r G. count-from l g b f G)
     (λ k low H.
@@ -280,14 +298,15 @@ module _ (rule : LoadingRule) where
       → Bytes l → Built rule (graphAfter g (allBy rule l)) (d ++ acceptedFrom g b f (allBy rule l))
   unfolding graphAfter acceptedFrom
   built-from [] g b f d T p q h = subst (λ (x : List Accepted). Built rule g x) (sym (append-nil d)) T
-  built-from (s ∷ l) g b f d T p q h = insert-told rule g s (safe-sound g (T .safe))
+  built-from (s ∷ l) g b f d T p q h = insert-told rule g s
       (λ x. Safe false (x .graph) → Built rule (graphAfter (x .graph) (allBy rule l)) (d ++ acceptStep b f s (allBy rule l) x))
       (λ r G. built-from l g b f d T p q rest)
       (λ k low G.
       let e = grown-at rule g s in
       let o : Accepted = record { node = b + f; place = cond (front s) (negsuc f) (pos b); bytes = s } in
       let n : b + f ≡ size g = (λ i. p i + q i) ∙ T .safe .nodes .ends in
-      let t = built-more rule g d T s low k here o n (λ i. cond (front s) (negsuc (q i)) (pos (p i))) refl (subst (λ (x : CircuitDag). Safe false x) e G) in
+      let t = built-more rule g d T s low (good-keeps s k) here o n (λ i. cond (front s) (negsuc (q i)) (pos (p i))) refl
+      (subst (λ (x : CircuitDag). Safe false x) e G) in
       subst (λ (x : List Accepted). Built rule (graphAfter (grown (ruleOf rule) g s) (allBy rule l)) x) (append-assoc d (o ∷ []) _)
       (built-from l (grown (ruleOf rule) g s) (cond (front s) b (b + 1)) (cond (front s) (f + 1) f) (d ++ (o ∷ []))
       (subst (λ (x : CircuitDag). Built rule x (d ++ (o ∷ []))) (sym e) t)

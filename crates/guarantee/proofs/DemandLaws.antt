@@ -35,7 +35,7 @@ use Rattle.guarantee.proofs.NetRuns.{Kept, kept, net-base}
 use Rattle.walk.proofs.BlockSteps.{Within, sound-within, any-list, block-at, count-at, number-in, number-out}
 use Rattle.walk.proofs.WholeLaws.{walk-short, walk-done, walk-entry}
 use Rattle.guarantee.proofs.CountLaws.{count-ext, different-count}
-use Rattle.guarantee.proofs.AcceptedNets.{callOf, netOf, net-size, net-ranked, noRecord, at, Built, built-size, built}
+use Rattle.guarantee.proofs.AcceptedNets.{callOf, netOf, net-size, net-ranked, noRecord, at, Built, no-empty-set, built-size, built}
 use Rattle.guarantee.proofs.RecordTakes.{takes-qubits, clash-is, nonempties, one-all}
 
 -- ---- each of a list
@@ -256,6 +256,6 @@ demand-3 = record {
   whole = λ l buffer C room.
       let done = accepted (allBy NearAll l) in
       let T = built NearAll l (C .bytes) in
-      let e = nonempties done (T .rule) (T .bytes) (C .nonempty) in
+      let e = nonempties done (T .rule) (T .bytes) (no-empty-set (allBy NearAll l)) in
       guaranteed NearAll l buffer (C .bytes) (net-base (map callOf done) e (one-all done (T .rule) (T .bytes) (C .one-all))) room;
 }

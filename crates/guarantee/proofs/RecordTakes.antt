@@ -11,12 +11,12 @@ use lib.ListN.{length, getD, List·getD-eq-default}
 use borrow.Author.Tests.{eqb-false, ltb-true, leb-true}
 use Rattle.file.specs.Lists.{anyOf, allOf, keep, member}
 use Rattle.file.specs.Pairs.{numberAt}
-use Rattle.file.specs.Records.{front, kind, qubitForm, registerForm, mask, definitionRule, qubitRule, tailRule, recordRule, qubitsBy, qubitsOf}
-use Rattle.file.proofs.BoolLaws.{bool-cases, clash-bool, not-true, and-l, and-r, and-intro, or-inl, or-inr, flip-not}
+use Rattle.file.specs.Records.{front, kind, qubitForm, registerForm, mask, definitionRule, qubitRule, tailRule, recordRule, qubitsBy, qubitsOf, emptySet}
+use Rattle.file.proofs.BoolLaws.{bool-cases, clash-bool, not-true, and-l, and-r, and-intro, or-inl, flip-not}
 use Rattle.graph.proofs.ListLaws.{all-at, none-at, keep-any}
 use Rattle.links.specs.Links.{qubits}
 use Rattle.links.proofs.QubitLaws.{qubits-next}
-use Rattle.guarantee.specs.Guarantee.{Accepted, takesAll, takesQubits, emptySet, clash}
+use Rattle.guarantee.specs.Guarantee.{Accepted, takesAll, takesQubits, clash}
 use Rattle.walk.proofs.Bounds.{any}
 use Rattle.guarantee.proofs.LinkViews.{has, has-any, has-some, takeBy}
 use Rattle.guarantee.proofs.Nets.{isOp, isAll, clashes, NonEmpty, NonEmpties}
@@ -125,10 +125,9 @@ module _ (l : List Accepted) (rule : (u : ℕ) → u < length l → recordRule (
       (and-intro (takesQubits (at l u .bytes)) (p (at l u)) (sym (takes-qubits (at l u .bytes) (rule u k)) ∙ t) e)
       (none-at (λ o. takesQubits (o .bytes) && p o) l noRecord (sym (keep-any (λ (o : Accepted). takesQubits (o .bytes)) p l) ∙ h) u k))
 
-  pub nonempties : anyOf (λ (o : Accepted). emptySet (o .bytes)) ops ≡ false → NonEmpties (map callOf l)
+  pub nonempties : anyOf (λ (o : Accepted). emptySet (o .bytes)) l ≡ false → NonEmpties (map callOf l)
   nonempties h = calls-nonempty l (λ u k. not-none (qubitForm (at l u .bytes)) (mask (at l u .bytes)) (form-low (at l u .bytes) (rule u k))
-      (not-true (λ e. clash-bool (or-inr (takesAll (at l u .bytes)) (eqb (qubitForm (at l u .bytes)) 2) (and-l (eqb (qubitForm (at l u .bytes)) 2) (eqb (mask (at l u .bytes)) 0) e))
-      (sym (takes-qubits (at l u .bytes) (rule u k)) ∙ no-op (λ (o : Accepted). emptySet (o .bytes)) h u k e)))
+      (none-at (λ (o : Accepted). emptySet (o .bytes)) l noRecord h u k)
       (mask-low (at l u .bytes) (bytes u k)))
 
   -- "where qubit operations are accepted at both ends, at most one of them takes all qubits"

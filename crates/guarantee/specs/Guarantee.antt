@@ -1,7 +1,7 @@
 -- Demand 3, the statement: "a single claim about the whole list, not one for each call". Everything it says is in this file and in the rules it names.
 -- Assumes nothing.
 use mathlib.Core.Path.{_≡_}
-use mathlib.Core.Bool.{Bool, true, false, cond, not, _&&_, _||_}
+use mathlib.Core.Bool.{Bool, true, false, cond, not, _||_}
 use mathlib.Core.List.{List, [], _∷_, _++_, map}
 use Prim.Native.Nat.{ℕ, _+_, _≤_, _<_}
 use lib.Dec.{ltb, eqb}
@@ -9,7 +9,7 @@ use lib.IntN.{ℤ, pos, negsuc}
 use lib.Signed.{ltZ}
 use lib.ListN.{length, getD}
 use Rattle.file.specs.Lists.{anyOf, allOf, keep, member, add}
-use Rattle.file.specs.Records.{front, qubitForm, mask}
+use Rattle.file.specs.Records.{front, qubitForm, mask, emptySet}
 use Rattle.file.specs.declared.Refusal.the-variants.{ShortBuffer}
 use Rattle.graph.specs.declared.NodeIndex.{NodeIndex}
 use Rattle.graph.specs.declared.CircuitDag.{CircuitDag}
@@ -41,7 +41,7 @@ acceptedFrom g b f (c ∷ l) = let s = c .bytes in let x = insertBy (c .rule) g 
 abbrev pub accepted : List Call → List Accepted
 accepted l = acceptedFrom empty 0 0 l
 
--- "What an operation takes is read from its record, never from the graph: only form All takes all qubits, and only a Set with mask zero is an empty set."
+-- "What an operation takes is read from its record, never from the graph: only form All takes all qubits"
 abbrev pub takesAll : List ℕ → Bool
 takesAll s = eqb (qubitForm s) 1
 
@@ -49,23 +49,22 @@ takesAll s = eqb (qubitForm s) 1
 abbrev pub takesQubits : List ℕ → Bool
 takesQubits s = takesAll s || eqb (qubitForm s) 2
 
--- "only a Set with mask zero is an empty set"
-abbrev pub emptySet : List ℕ → Bool
-emptySet s = eqb (qubitForm s) 2 && eqb (mask s) 0
-
 -- the accepted qubit operations
 abbrev pub operations : List Call → List Accepted
 operations l = keep (λ (o : Accepted). takesQubits (o .bytes)) (accepted l)
+
+-- K2: "Refuse such a record": of every list of insertions, by either rule, no accepted record has an empty set
+abbrev pub NoEmptySet : Type 0
+NoEmptySet = (l : List Call) → anyOf (λ (o : Accepted). emptySet (o .bytes)) (accepted l) ≡ false
 
 -- The records are bytes, numbers below 256. They may be any bytes: a record that breaks its rule is refused and does not count.
 abbrev pub Bytes : List (List ℕ) → Type 0
 Bytes l = allOf (allOf (λ b. ltb b 256)) l ≡ true
 
--- "no accepted operation has an empty qubit set and, where qubit operations are accepted at both ends, at most one of them takes all qubits"
+-- "where qubit operations are accepted at both ends, at most one of them takes all qubits". K2: "The block guarantee therefore loses its condition on
+-- empty sets": no record with one is accepted.
 pub record Condition (l : List (List ℕ)) : Type 0 where
   pub bytes : Bytes l
-  -- No accepted operation has an empty qubit set: a pulse on nothing would hide the all-qubit pulse behind it (case 6 of the bench table).
-  pub nonempty : anyOf (λ (o : Accepted). emptySet (o .bytes)) (operations (allBy NearAll l)) ≡ false
   -- Where qubit operations came in at both ends, at most one of them takes all qubits. With two, the graph loses an order (case 5).
   -- With operations at one end only there is no such condition.
   pub one-all : let ops = operations (allBy NearAll l) in anyOf (λ (o : Accepted). front (o .bytes)) ops ≡ true

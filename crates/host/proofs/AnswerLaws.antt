@@ -5,7 +5,7 @@ use native.Mathlib.Omega.{arith}
 use Rattle.file.specs.Refusals.{numberOf}
 use Rattle.file.specs.declared.Refusal.{Refusal}
 use Rattle.file.specs.declared.Refusal.the-variants.{FileTooShort, TooManyRecords, BadPair, BadRecord, TooManyNodes, TooManyEdges}
-use Rattle.file.specs.declared.Refusal.the-variants.{TooManyRegisters, Absent, NotInLayer, ShortBuffer, Unsound}
+use Rattle.file.specs.declared.Refusal.the-variants.{TooManyRegisters, Absent, NotInLayer, ShortBuffer, Unsound, EmptySet}
 use Rattle.walk.specs.declared.BlockCount.{BlockCount}
 use Rattle.walk.specs.declared.BlockCount.the-variants.{Blocks, Refused}
 use Rattle.host.specs.declared.HostAnswer.{HostAnswer}
@@ -24,6 +24,7 @@ not-0 Absent e = omega arith
 not-0 NotInLayer e = omega arith
 not-0 ShortBuffer e = omega arith
 not-0 Unsound e = omega arith
+not-0 (EmptySet i) e = omega arith
 
 pub walk-accepted : (x : BlockCount) (k : ℕ) → ofWalk x ≡ accepts k → x ≡ Blocks k
 walk-accepted (Blocks j) k e = ap (λ (a : HostAnswer). Blocks (a .value)) e

@@ -292,7 +292,7 @@ module _ (rule : FarRule) (i : ℕ) (g : CircuitDag) (s : List ℕ) where
   safe-as names G = insert-cases rule g s i (λ x. Safe false (x .graph)) (λ r c. G)
       (λ t. safe-grown rule names g s G (not-passed rule (front s) g s (good-keeps s (t .whole)) (t .free) (t .room) (t .fit)))
 
-  -- "4 to 7"
+  -- "4 to 7", and K2's 12
   as-refused : insertAs rule i g s .answer ≡ Refused Unsound → ⊥
   as-refused = insert-cases rule g s i (λ x. x .answer ≡ Refused Unsound → ⊥)
       (λ r c e. never-unsound rule g s i r c cc)

@@ -14,7 +14,8 @@ use Rattle.insertion.specs.declared.Loaded.{Loaded}
 use Rattle.links.specs.Links.{nearAll}
 use Rattle.insertion.specs.Load.{notLoaded, insertRecords}
 
--- "a front record is refused 4. Here 4 is checked for all records in file order before the first insertion"
+-- "a front record is refused 4. Here 4 is checked for all records in file order before the first insertion"; K2's 12 is no 4, and so one of the
+-- "later refusals"
 abbrev pub broken : List ℕ → ℕ → Bool
 broken s i = not (recordRule (recordAt s i)) || front (recordAt s i)
 
@@ -32,6 +33,6 @@ abbrev pub convertChecked : FileCheck → List ℕ → Loaded
 convertChecked (BadFile r) s = notLoaded r
 convertChecked Sound s = convert s (keep (broken s) (upTo (countOf s)))
 
--- "From a circuit"; "Order: .. 2 once two bytes are there, 1, 3, then per record 4 to 7"
+-- "From a circuit"; "Order: .. 2 once two bytes are there, 1, 3, then per record 4 to 7", K2's 12 behind 4
 unfoldable pub fromCircuit : List ℕ → Loaded
 fromCircuit s = convertChecked (checkFile s) s

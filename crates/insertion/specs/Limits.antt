@@ -1,4 +1,4 @@
--- An insertion with its refusals: "Order: 11, .. then per record 4 to 7". Assumes nothing.
+-- An insertion with its refusals: "Order: 11, .. then per record 4 to 7", K2's 12 behind 4. Assumes nothing.
 use mathlib.Core.Bool.{Bool, true, false, cond, not}
 use mathlib.Core.List.{List}
 use Prim.Native.Nat.{ℕ, _+_}
@@ -35,7 +35,8 @@ edgesPass rule g s = ltb 2048 (g .edges .count + length (linked rule (facing (fr
 abbrev pub registersPass : CircuitDag → List ℕ → Bool
 registersPass g s = mapsPass (registered (facing (front s) g) s)
 
--- the record s, which is record i of its file, on a sound graph: "then per record 4 to 7", of which 4 is its own
+-- the record s, which is record i of its file, on a sound graph: "then per record 4 to 7", of which 4 is its own, and K2's 12, "checked after 4 and
+-- before 5"
 unfoldable pub insertAs : FarRule → ℕ → CircuitDag → List ℕ → Inserted
 insertAs rule i g s =
     cond (not (good s)) (refused (atRecord i (causeOf s)) g)

@@ -29,7 +29,7 @@ abbrev pub loadChecked : FarRule → FileCheck → List ℕ → Loaded
 loadChecked rule (BadFile r) s = notLoaded r
 loadChecked rule Sound s = insertRecords rule s empty (upTo (countOf s))
 
--- "Order: .. 2 once two bytes are there, 1, 3, then per record 4 to 7"
+-- "Order: .. 2 once two bytes are there, 1, 3, then per record 4 to 7", K2's 12 behind 4
 unfoldable pub loadBy : LoadingRule → List ℕ → Loaded
 loadBy rule s = loadChecked (ruleOf rule) (checkFile s) s
 

@@ -41,7 +41,7 @@ fn node_lists(g: CircuitDag) -> NodeLists
     }
 }
 
-// Record i on a sound graph: 4, 5, 6, 7.
+// Record i on a sound graph: 4, 12, 5, 6, 7.
 fn insert_sound(rule: LoadingRule, i: usize, g: CircuitDag, part: &[u8]) -> Inserted
     requires { ⌜ sound g ≡ true ⌝ }
     ensures { λ r. ⌜ r ≡ insertAs (ruleOf rule) i g (now (part .entry)) ⌝ }
@@ -71,7 +71,7 @@ fn insert_sound(rule: LoadingRule, i: usize, g: CircuitDag, part: &[u8]) -> Inse
     }
 }
 
-// Any bytes as a record on any graph: 11, then 4 to 7. A refusal returns the graph that came in.
+// Any bytes as a record on any graph: 11, then 4, 12, 5, 6, 7. A refusal returns the graph that came in.
 pub(crate) fn insert_by(rule: LoadingRule, g: CircuitDag, part: &[u8]) -> Inserted
     ensures { λ r. ⌜ r ≡ insertBy rule g (now (part .entry)) ⌝ }
 {

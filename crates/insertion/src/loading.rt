@@ -68,7 +68,7 @@ pub(crate) fn insert_in_order(rule: LoadingRule, file: &[u8], order: &[u16]) -> 
     }
 }
 
-// A circuit file, or the first refusal: 2, 1, 3, then per record 4, 6, 7.
+// A circuit file, or the first refusal: 2, 1, 3, then per record 4, 12, 6, 7.
 pub(crate) fn load_by(rule: LoadingRule, file: &[u8]) -> Loaded
     ensures { λ r. ⌜ r ≡ loadBy rule (now (file .entry)) ⌝ }
 {

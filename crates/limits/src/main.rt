@@ -1,5 +1,5 @@
 // The limits: 512 nodes at either end and the 513th refused, 2,048 edges and one more refused, 256 register entries and one more refused, by one key
-// and by a list of 24.
+// and by a list of 24; and, on a graph of 512 nodes, an empty set, refused 12 and not 5.
 ghost use Prim.Native.Nat.{_≤_, _<_};
 use file::Outcome;
 use file::Refusal;
@@ -199,6 +199,19 @@ fn print_lists(entry: &[u8]) {
     print_single(b"a definition of 233, then 24 keys: ", 233, &over);
 }
 
+// A gate on no qubit on a full graph: 12 before 5.
+fn print_empty_set() {
+    let nothing = writing::gate_record(false, 0);
+    let back = gates(512, false, false);
+    print_load(
+        b"512 at the back, then an empty set: ",
+        &back,
+        9218,
+        511,
+        &nothing,
+    );
+}
+
 fn main() {
     let gate = writing::gate_record(false, 1);
     let entry = [0u8, 0, 0, 0, 0, 0, 0, 0, 0, 0, 0, 3, 0, 0, 1, 2, 0, 0];
@@ -213,4 +226,5 @@ fn main() {
     let over = definition(257);
     print_load(b"a definition of 257: ", &over, 23, 0, &entry);
     print_lists(&entry);
+    print_empty_set();
 }

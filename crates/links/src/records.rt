@@ -214,7 +214,7 @@ pub fn link_node(
 }
 
 // The file's records with these numbers, one after the other, as nodes 0, 1, 2, ..: each 2, 1, 8, 3 where the file has
-// it not, then 4, 5, 6.
+// it not, then 4, 12, 5, 6.
 pub fn link_records(rule: LoadingRule, file: &[u8], order: &[u16]) -> LinkedRecords
     ensures { λ r. ⌜ r ≡ linkRecords (ruleOf rule) (now (file .entry)) noLinks (now (order .entry)) ⌝ }
 {

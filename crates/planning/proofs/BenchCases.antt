@@ -5,7 +5,7 @@ use mathlib.Core.List.{[], _∷_}
 use Prim.Native.Nat.{ℕ, _≤_}
 use native.Mathlib.Omega.{arith}
 use Rattle.file.specs.Lists.{anyOf, allOf, keep, distinct, countFrom, markedFrom}
-use Rattle.file.specs.Pairs.{numberAt}
+use Rattle.file.specs.Pairs.{numberAt, checkPairs, checkFile, pairPlace}
 use Rattle.file.specs.Records.{definitionRule, qubitRule, entryBefore, ascendFrom, setRule, tailRule, recordRule, good, causeOf, qubitsBy, classicalOf}
 use Rattle.file.specs.declared.Refusal.the-variants.{Absent}
 use Rattle.graph.specs.Dag.{node, atQubit, noEnd, noRegisters, empty}
@@ -22,15 +22,16 @@ use Rattle.registers.specs.Registers.{put, define, setKeys, registersAfter}
 use Rattle.links.specs.Links.{qubitsFrom, linkQubits, linkSet, mapped, linkAll}
 use Rattle.insertion.specs.Insertion.{grown}
 use Rattle.insertion.specs.Limits.{insertAs, insertBy}
+use Rattle.insertion.specs.Load.{insertRecords, loadBy}
 use Rattle.insertion.specs.Calls.{graphAfter, final}
 use Rattle.walk.specs.Blocks.{marks, start, joined, followers, blocksFrom, blocks, numberFrom, wholeWalk}
 use Rattle.guarantee.specs.Guarantee.{acceptedFrom}
 use Rattle.planning.specs.Chain.{chainFrom, chainOf}
-use Rattle.planning.specs.BenchTable.{B, BAll, NameSet, case2, case4, case5, case6, case10, BenchTable}
+use Rattle.planning.specs.BenchTable.{B, BAll, NameSet, case2, case4, case5, case10, BenchTable}
 
 -- a declaration that says `unfolding rules` computes with every rule
 unfoldable pub rules : ℕ
-unfolding numberAt anyOf allOf keep distinct countFrom markedFrom definitionRule qubitRule entryBefore ascendFrom setRule tailRule recordRule good causeOf qubitsBy classicalOf noEnd noRegisters empty ascends sound put define setKeys registersAfter qubitsFrom linkQubits linkSet mapped linkAll grown insertAs insertBy graphAfter reachedBy blocking remove layerAfter newFrontLayer placeIn sortByPlace circuitOf marks start joined followers blocksFrom blocks numberFrom wholeWalk acceptedFrom chainFrom chainOf
+unfolding numberAt checkPairs checkFile pairPlace anyOf allOf keep distinct countFrom markedFrom definitionRule qubitRule entryBefore ascendFrom setRule tailRule recordRule good causeOf qubitsBy classicalOf noEnd noRegisters empty ascends sound put define setKeys registersAfter qubitsFrom linkQubits linkSet mapped linkAll grown insertAs insertBy insertRecords loadBy graphAfter reachedBy blocking remove layerAfter newFrontLayer placeIn sortByPlace circuitOf marks start joined followers blocksFrom blocks numberFrom wholeWalk acceptedFrom chainFrom chainOf
 rules = 0
 
 -- a list without a front operation has no condition on all-qubit operations
@@ -46,12 +47,12 @@ bench-table = record {
   case-3 = (refl, refl);
   case-4 = (refl, refl, refl);
   case-5 = (refl, refl, λ c. omega (arith, c .one-all refl refl));
-  case-6 = (refl, refl, refl);
+  case-6 = (refl, refl);
   case-7 = (refl, refl, refl);
   case-8 = refl;
   case-9 = refl;
   case-10 = (refl, refl, refl);
-  condition-met = (record { bytes = refl; nonempty = refl; one-all = λ a b. omega arith }, record { bytes = refl; nonempty = refl; one-all = λ a b. no-front a });
+  condition-met = (record { bytes = refl; one-all = λ a b. omega arith }, record { bytes = refl; one-all = λ a b. no-front a });
 }
 
 -- "first[q] becomes lastAll": B All, B All, B{3} gives first[3] = 1, where firstAll would give 0. No case of the table tells the two apart.
@@ -72,7 +73,7 @@ accessors-of-10 : (lastInvolvingClassical (case10 []) (record { name = 2; index 
 unfolding rules nodeOfKey firstInvolvingClassical lastInvolvingClassical commutingOperations
 accessors-of-10 = (refl, refl, refl, refl)
 
--- the chains of cases 2, 5 and 6: each goes on to the smallest predecessor, from the smallest node of the last block
+-- the chains of cases 2 and 5: each goes on to the smallest predecessor, from the smallest node of the last block
 chain-of-2 : chainOf case2 ≡ 2 ∷ 0 ∷ []
 unfolding rules
 chain-of-2 = refl
@@ -80,7 +81,3 @@ chain-of-2 = refl
 chain-of-5 : chainOf case5 ≡ 2 ∷ 1 ∷ 0 ∷ []
 unfolding rules
 chain-of-5 = refl
-
-chain-of-6 : chainOf case6 ≡ 0 ∷ []
-unfolding rules
-chain-of-6 = refl

@@ -1,18 +1,20 @@
 -- "Bench table (proved)": "The ten cases above are one theorem about the rules." Assumes nothing.
 use mathlib.Core.Path.{_≡_}
-use mathlib.Core.List.{List, [], _∷_, map}
+use mathlib.Core.List.{List, [], _∷_, _++_, map}
 use Prim.Native.Nat.{ℕ, _+_, _^_}
 use lib.IntN.{negsuc}
 use lib.ListN.{replicate}
-use Rattle.file.specs.Lists.{members}
+use Rattle.file.specs.declared.Refusal.the-variants.{EmptySet}
 use Rattle.graph.specs.declared.CircuitDag.{CircuitDag}
 use Rattle.queries.specs.declared.Query.the-variants.{Entries}
 use Rattle.graph.specs.Dag.{Node, absent, edge, entry, nodesOf, edgesOf, entriesOf, atQubit}
 use Rattle.queries.specs.Queries.{newFrontLayer}
 use Rattle.queries.specs.Conversion.{circuitOf}
+use Rattle.insertion.specs.Limits.{refused, insertOf}
+use Rattle.insertion.specs.Load.{notLoaded, load}
 use Rattle.insertion.specs.Calls.{final}
 use Rattle.walk.specs.declared.BlockCount.the-variants.{Blocks}
-use Rattle.walk.specs.Blocks.{wholeWalk, blocks, blockNumbers}
+use Rattle.walk.specs.Blocks.{wholeWalk, blocks}
 use Rattle.guarantee.specs.Guarantee.{Condition}
 
 -- "numbers in braces are qubits": their mask
@@ -64,9 +66,9 @@ list5 = B (0 ∷ []) ∷ BAll ∷ BAll ∷ F (3 ∷ []) ∷ B (3 ∷ []) ∷ []
 abbrev pub case5 : CircuitDag
 case5 = final list5
 
--- case 6: "B{} B All"
-abbrev pub case6 : CircuitDag
-case6 = final (B [] ∷ BAll ∷ [])
+-- case 6: "B{} B All", as a file: two records of 14 bytes behind the count and the pairs
+abbrev pub file6 : List ℕ
+file6 = 2 ∷ 0 ∷ 10 ∷ 0 ∷ 14 ∷ 0 ∷ 24 ∷ 0 ∷ 14 ∷ 0 ∷ (B [] ++ BAll)
 
 -- case 7: "F{0} F{0}"
 abbrev pub case7 : CircuitDag
@@ -97,8 +99,8 @@ pub record BenchTable : Type 0 where
   -- "5. B{0} B All B All F{3} B{3}: edges 0-1, 1-2, 3-1, 1-4; blocks {0,3} {1} {2,4}. Two all-qubit operations and both ends: outside demand 3."
   pub case-5 : (edgesOf case5 ≡ edge 0 1 ∷ edge 1 2 ∷ edge 3 1 ∷ edge 1 4 ∷ [])
       × (blocks case5 ≡ (0 ∷ 3 ∷ []) ∷ (1 ∷ []) ∷ (2 ∷ 4 ∷ []) ∷ []) × (Condition list5 → ⊥)
-  -- "6. B{} B All: no edge; first block {0}, node 1 in no block."
-  pub case-6 : (edgesOf case6 ≡ []) × (members (case6 .first .block) ≡ 0 ∷ []) × (blockNumbers case6 ≡ 0 ∷ absent ∷ [])
+  -- "6. B{} B All". K2: "Case 6 becomes a refusal", 12 at record 0: the insertion leaves the graph, the load gives the empty one.
+  pub case-6 : (insertOf (final []) (B []) ≡ refused (EmptySet 0) (final [])) × (load file6 ≡ notLoaded (EmptySet 0))
   -- "7. F{0} F{0}: places -1, -2; edge 1-0; circuit 1, 0."
   pub case-7 : (map (λ (n : Node). n .place) (nodesOf case7) ≡ negsuc 0 ∷ negsuc 1 ∷ []) × (edgesOf case7 ≡ edge 1 0 ∷ []) × (circuitOf case7 ≡ 1 ∷ 0 ∷ [])
   -- "8. On 2, layer 0 1, nothing executed, node 0: layer stays 0 1."
@@ -109,6 +111,6 @@ pub record BenchTable : Type 0 where
   pub case-10 : (entriesOf (case10 [] .«last_registers») ≡ entry 2 0 2 ∷ [])
       × (entriesOf (case10 [] .«first_registers») ≡ entry 1 0 0 ∷ entry 1 1 0 ∷ entry 2 0 1 ∷ [])
       × (entriesOf (case10 (NameSet 1 0 ∷ []) .«first_registers») ≡ entry 1 0 3 ∷ entry 1 1 0 ∷ entry 2 0 1 ∷ [])
-  -- "in which no accepted operation has an empty qubit set and, where qubit operations are accepted at both ends, at most one of them takes all
-  -- qubits": demand 3's condition can be met, so that the guarantee is about lists that there are
+  -- "where qubit operations are accepted at both ends, at most one of them takes all qubits": demand 3's condition can be met, so that the guarantee is
+  -- about lists that there are
   pub condition-met : Condition bothEnds × Condition oneEnd

@@ -148,8 +148,8 @@ fn enter_records(file: &[u8], order: &[u16]) -> Registered
 }
 
 // The file's records with these numbers, one after the other, as nodes 0, 1, 2, ..: the links refuse 2, 1, 8, 3 where
-// the file has a record not, then 4 to 6, the maps 7. The maps see only the records before the links' first refusal, so
-// that theirs, if there is one, is the earlier.
+// the file has a record not, then 4, 12, 5, 6, the maps 7. The maps see only the records before the links' first
+// refusal, so that theirs, if there is one, is the earlier.
 pub fn register_records(rule: LoadingRule, file: &[u8], order: &[u16]) -> RegisteredRecords
     ensures { λ r. ⌜ r ≡ registerRecords (ruleOf rule) (now (file .entry)) (now (order .entry)) ⌝ }
 {
@@ -171,7 +171,8 @@ fn maps_fit(first: Registers, last: Registers, v: NodeIndex) -> bool
     false
 }
 
-// Record i as node v on the register maps of a graph with v nodes: 11, 4, 5, 7. A refusal leaves them as they were.
+// Record i as node v on the register maps of a graph with v nodes: 11, 4, 12, 5, 7. A refusal leaves them as they
+// were.
 pub fn register_record(
     i: usize,
     first: Registers,

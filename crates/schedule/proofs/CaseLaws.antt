@@ -40,10 +40,11 @@ pub cases : Cases
 unfolding fileRules graphRules walkRules
 cases = record {
   case-2 = refl;
-  case-2-meets = record { nonempty = refl; one-all = λ a b. no-front a };
+  case-2-meets = record { one-all = λ a b. no-front a };
   case-2-short = refl;
   both-ends = refl;
-  both-ends-meets = record { nonempty = refl; one-all = λ a b. omega arith };
+  both-ends-meets = record { one-all = λ a b. omega arith };
   case-5 = refl;
   case-5-outside = λ c. omega (arith, c .one-all refl refl);
+  case-6 = refl;
 }

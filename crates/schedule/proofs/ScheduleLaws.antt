@@ -39,7 +39,7 @@ use Rattle.insertion.proofs.BuiltLoads.{load-inserts}
 use Rattle.walk.specs.declared.BlockCount.{BlockCount}
 use Rattle.walk.specs.declared.BlockCount.the-variants.{Blocks, Refused}
 use Rattle.walk.specs.Blocks.{Walked, wholeWalk, blocks, blockOfStep}
-use Rattle.guarantee.specs.Guarantee.{Accepted, acceptedFrom, accepted, emptySet, takesQubits, takesAll, operations, Each, Orders, different}
+use Rattle.guarantee.specs.Guarantee.{Accepted, acceptedFrom, accepted, takesQubits, takesAll, operations, Each, Orders, different}
 use Rattle.guarantee.specs.Guarantee.{filled, Guarantee}
 use Rattle.guarantee.specs.Guarantee.{Condition as ListCondition}
 use Rattle.guarantee.proofs.AcceptedNets.{built}
@@ -142,7 +142,6 @@ module _ (s : List ℕ) (bytes : (i : ℕ) → getD s i 0 < 256) (done : load s 
   condition : Condition s → ListCondition l
   condition C = record {
     bytes = records-bytes;
-    nonempty = subst (λ (a : List Accepted). anyOf (λ (o : Accepted). emptySet (o .bytes)) a ≡ false) (sym pulses-are) (C .nonempty);
     one-all = subst (λ (a : List Accepted). anyOf (λ (o : Accepted). front (o .bytes)) a ≡ true → anyOf (λ (o : Accepted). not (front (o .bytes))) a ≡ true
         → length (keep (λ (o : Accepted). takesAll (o .bytes)) a) ≤ 1) (sym pulses-are) (C .one-all);
   }

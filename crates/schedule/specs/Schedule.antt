@@ -18,13 +18,13 @@ use Rattle.insertion.specs.declared.Loaded.{Loaded}
 use Rattle.insertion.specs.Load.{load}
 use Rattle.walk.specs.declared.BlockCount.the-variants.{Refused}
 use Rattle.walk.specs.Blocks.{Walked, wholeWalk, blockOfStep}
-use Rattle.guarantee.specs.Guarantee.{Accepted, takesAll, takesQubits, emptySet, Each, Orders, different}
+use Rattle.guarantee.specs.Guarantee.{Accepted, takesAll, takesQubits, Each, Orders, different}
 
 -- a refused load's cause, the buffer as it was; else the whole walk of the graph
 abbrev pub walkLoaded : Loaded → List ℕ → Walked
 walkLoaded x buffer = elim (x .answer) [ Done ↦ wholeWalk (x .graph) buffer | NotLoaded r ↦ record { answer = Refused r; buffer = buffer } ]
 
--- load, then whole walk: refusals 2, 1, 3, per record 4 to 7, then 10
+-- load, then whole walk: refusals 2, 1, 3, per record 4, 12, 6, 7, then 10
 unfoldable pub schedule : List ℕ → List ℕ → Walked
 schedule s buffer = walkLoaded (load s) buffer
 
@@ -45,10 +45,9 @@ placed s = placedFrom 0 0 (recordsOf s)
 abbrev pub pulses : List ℕ → List Accepted
 pulses s = keep (λ (o : Accepted). takesQubits (o .bytes)) (placed s)
 
--- "no accepted operation has an empty qubit set and, where qubit operations are accepted at both ends, at most one of them takes all qubits"
+-- "where qubit operations are accepted at both ends, at most one of them takes all qubits"; K2: "The block guarantee therefore loses its condition on
+-- empty sets"
 pub record Condition (s : List ℕ) : Type 0 where
-  -- no pulse on nothing
-  pub nonempty : anyOf (λ (o : Accepted). emptySet (o .bytes)) (pulses s) ≡ false
   -- with pulses at the front and at the back, at most one on all qubits
   pub one-all : anyOf (λ (o : Accepted). front (o .bytes)) (pulses s) ≡ true → anyOf (λ (o : Accepted). not (front (o .bytes))) (pulses s) ≡ true
       → length (keep (λ (o : Accepted). takesAll (o .bytes)) (pulses s)) ≤ 1

@@ -1,22 +1,26 @@
 -- A file made of records, read again: it keeps the rules of header and pairs, and has these records. Assumes nothing.
 use mathlib.Core.Path.{_≡_, refl, sym, _∙_, ap, subst}
-use mathlib.Core.Bool.{Bool, true, false}
+use mathlib.Core.Bool.{Bool, true, false, _&&_}
 use mathlib.Core.List.{List, [], _∷_, _++_, map, append-assoc}
 use Prim.Native.Nat.{ℕ, zero, suc, _+_, _*_, _/_, _%_, _^_, _≤_, _<_}
 use native.Mathlib.Numerals.{add-one}
 use native.Mathlib.Omega.{arith}
+use lib.Dec.{eqb}
 use lib.ListN.{length, getD, take, drop, length-append, length-map}
 use lib.Seq.{take-append-seam, drop-append-seam, getD-append-seam}
-use borrow.Author.Tests.{eq-eqb, le-ltb}
+use borrow.Author.Tests.{eq-eqb, ne-eqb, le-ltb}
 use Rattle.file.specs.Lists.{countFrom, upTo}
 use Rattle.file.specs.Pairs.{numberAt, countOf, offsetOf, lengthOf, partOf, recordAt, checkFile}
 use Rattle.file.specs.Tight.{tightPairs, tightFile}
-use Rattle.file.specs.Records.{mask, label, parseRecord, good, recordRule, definitionRule, qubitRule, tailRule, qubitsBy, classicalOf}
+use Rattle.file.specs.Records.{mask, label, parseRecord, good, causeOf, emptySet, recordOf, recordRule}
+use Rattle.file.specs.Records.{definitionRule, qubitRule, tailRule, qubitsBy, classicalOf}
+use Rattle.file.specs.declared.Refusal.the-variants.{EmptySet}
 use Rattle.file.specs.declared.FileCheck.the-variants.{Sound}
-use Rattle.file.specs.declared.Parsed.the-variants.{Record as Parses}
+use Rattle.file.specs.declared.Parsed.the-variants.{Record as Parses, Refused}
 use Rattle.file.specs.declared.InvolvedQubits.the-variants.{Set}
 use Rattle.file.specs.declared.InvolvedClassical.the-variants.{None as NoRegister}
 use Rattle.file.specs.declared.Place.{Place}
+use Rattle.file.proofs.BoolLaws.{and-intro, flip-not}
 use Rattle.file.proofs.PutLaws.{length-countFrom}
 use Rattle.file.proofs.PairLaws.{pair-there}
 use Rattle.file.proofs.TightLaws.{tight-file}
@@ -256,12 +260,39 @@ gate-label : (e m : ℕ) → label (gate e m) ≡ 0
 unfolding gate bytesOf numberAt
 gate-label e m = refl
 
--- a gate parses to just its end and its qubits
-pub gate-parses : (front : Bool) (m : ℕ) → m < 2 ^ 64
+gate-rule : (front : Bool) (m : ℕ) → recordRule (gate (endByte front) m) ≡ true
+unfolding gate bytesOf recordRule definitionRule qubitRule tailRule
+gate-rule true m = refl
+gate-rule false m = refl
+
+gate-some : (e m : ℕ) → 0 < m → m < 2 ^ 64 → emptySet (gate e m) ≡ false
+unfolding gate
+gate-some e m p h = ap (λ (x : ℕ). eqb 2 2 && eqb x 0) (gate-mask e m h) ∙ ne-eqb m 0 (omega arith)
+
+gate-good : (front : Bool) (m : ℕ) → 0 < m → m < 2 ^ 64 → good (gate (endByte front) m) ≡ true
+unfolding good
+gate-good front m p h = and-intro (recordRule s) _ (gate-rule front m) (flip-not (emptySet s) (gate-some (endByte front) m p h))
+  where
+    s : List ℕ
+    s = gate (endByte front) m
+
+gate-says : (front : Bool) (m : ℕ) → m < 2 ^ 64
+    → recordOf (gate (endByte front) m) ≡ record { front = front; kind = 0; label = 0; qubits = Set m; classical = NoRegister }
+unfolding gate bytesOf qubitsBy classicalOf
+gate-says true m h = λ t. record { front = true; kind = 0; label = gate-label 1 m t; qubits = Set (gate-mask 1 m h t); classical = NoRegister }
+gate-says false m h = λ t. record { front = false; kind = 0; label = gate-label 0 m t; qubits = Set (gate-mask 0 m h t); classical = NoRegister }
+
+-- a gate with a qubit parses to just its end and its qubits
+pub gate-parses : (front : Bool) (m : ℕ) → 0 < m → m < 2 ^ 64
     → parseRecord (gate (endByte front) m) ≡ Parses (record { front = front; kind = 0; label = 0; qubits = Set m; classical = NoRegister })
-unfolding gate bytesOf parseRecord good recordRule definitionRule qubitRule tailRule qubitsBy classicalOf
-gate-parses true m h = λ t. Parses (record { front = true; kind = 0; label = gate-label 1 m t; qubits = Set (gate-mask 1 m h t); classical = NoRegister })
-gate-parses false m h = λ t. Parses (record { front = false; kind = 0; label = gate-label 0 m t; qubits = Set (gate-mask 0 m h t); classical = NoRegister })
+unfolding parseRecord
+gate-parses front m p h = rw (gate-good front m p h, gate-says front m h) refl
+
+-- .. and one without is refused 12 (K2)
+pub gate-refused : (front : Bool) → parseRecord (gate (endByte front) 0) ≡ Refused (EmptySet 0)
+unfolding numberAt gate bytesOf parseRecord good causeOf recordRule definitionRule qubitRule tailRule
+gate-refused true = refl
+gate-refused false = refl
 
 -- records of 14 bytes
 module _ (f : ℕ → List ℕ) (h : (i : ℕ) → length (f i) ≡ 14) where

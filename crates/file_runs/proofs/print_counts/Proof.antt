@@ -5,10 +5,10 @@ use Rattle.file_runs.proofs.print_counts.Statement.{statement}
 use Rattle.file_runs.proofs.print_counts.Tie as tie
 
 abbrev Inv-loop : tie.InvT-loop
-Inv-loop counts k₀ t5 t6 k = k ≤ 96
+Inv-loop counts k₀ t5 t6 k = k ≤ 104
 
 abbrev μ-loop : tie.MeasureT-loop
-μ-loop counts k₀ t5 t6 k = 96 - k
+μ-loop counts k₀ t5 t6 k = 104 - k
 
 loop-holds : tie.Need-loop-holds Inv-loop μ-loop
 loop-holds c = search needs

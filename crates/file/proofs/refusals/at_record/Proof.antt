@@ -37,6 +37,9 @@ enum-told-9 c = search needs
 enum-told-10 : tie.Need-enum-told-10
 enum-told-10 c = search needs
 
+enum-told-11 : tie.Need-enum-told-11
+enum-told-11 c = search needs
+
 returns : tie.Need-returns
 returns c = search needs
 
@@ -70,6 +73,9 @@ returns-10 c = search needs
 returns-11 : tie.Need-returns-11
 returns-11 c = search needs
 
+returns-12 : tie.Need-returns-12
+returns-12 c = rw (c .enum-told11 .given .1) refl
+
 pub at-record-spec : {M : Type 1} → statement M
 at-record-spec =
     tie.close
@@ -85,6 +91,7 @@ at-record-spec =
     enum-told-8
     enum-told-9
     enum-told-10
+    enum-told-11
     returns
     returns-2
     returns-3
@@ -95,4 +102,5 @@ at-record-spec =
     returns-8
     returns-9
     returns-10
-    returns-11)
+    returns-11
+    returns-12)

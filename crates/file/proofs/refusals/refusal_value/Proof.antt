@@ -37,6 +37,9 @@ enum-told-6 c = search needs
 enum-told-7 : tie.Need-enum-told-7
 enum-told-7 c = search needs
 
+enum-known-r-5 : tie.Need-enum-known-r-5
+enum-known-r-5 c = search needs
+
 returns : tie.Need-returns
 returns c = search needs
 
@@ -70,6 +73,9 @@ returns-10 c = search needs
 returns-11 : tie.Need-returns-11
 returns-11 c = search needs
 
+returns-12 : tie.Need-returns-12
+returns-12 c = rw (c .before .r5 .given .1) refl
+
 pub refusal-value-spec : {M : Type 1} → statement M
 refusal-value-spec =
     tie.close
@@ -85,6 +91,7 @@ refusal-value-spec =
     enum-told-5
     enum-told-6
     enum-told-7
+    enum-known-r-5
     returns
     returns-2
     returns-3
@@ -95,4 +102,5 @@ refusal-value-spec =
     returns-8
     returns-9
     returns-10
-    returns-11)
+    returns-11
+    returns-12)
