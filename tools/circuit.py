@@ -5,7 +5,7 @@
   circuit.py show < case2.circuit                        each record of a circuit file, readably; also: circuit.py show case2.circuit
 
 A record of the notation is an end, B (back) or F (front), what it takes, and, where it has one, its register form:
-  B{0,1}  F{5}  B{}          a set of qubits, 0 to 63
+  B{0,1}  F{5}               a set of qubits, 0 to 63, at least one; `show` writes B{} for a record on none, which `write` does not
   B All   F All              all qubits
   B None                     no qubit
   B{0}/Set (1,0) (1,2)       register entries (name, index), at most 24, ascending; also B None/Set .., B All/Set ..
@@ -124,6 +124,8 @@ def parse(text):
         m = RECORD.match(text, at)
         if not m:
             raise CircuitError(no_record(text[at:].strip()))
+        if re.fullmatch(r"\{\s*\}", m["qubits"] or ""):
+            raise CircuitError(f"'{m[0].strip()}' takes no qubit: such a record is refused 12")
         records.append(record(m))
         at = m.end()
     if len(records) > 512:
@@ -132,7 +134,7 @@ def parse(text):
 
 
 def shown(r):
-    """One record, in the notation; its bytes where the notation does not give just these bytes, as where it breaks a rule."""
+    """One record, in the notation, B{} for one on no qubit; its bytes where the notation does not give just these bytes, as where it breaks a rule."""
     text = notation(r) if len(r) >= 14 else ""
     m = RECORD.fullmatch(text)
     try:
