@@ -74,6 +74,7 @@ fn some_numbers(random: &mut Random, n: usize, most: usize) -> Vec<usize> {
 
 /// Insertion, load, soundness, walk, queries and conversions of one circuit.
 pub fn circuit(records: &[Record], seed: u64, counts: &mut Counts) -> Result<(), String> {
+    same("an empty set handed to the original", records.iter().any(Record::has_empty_set), false)?;
     let mut random = Random::new(seed ^ 0x5157);
     let parts = parts_of(records);
     let file = file_of(&parts);
@@ -541,14 +542,42 @@ pub fn damaged(records: &[Record], seed: u64, counts: &mut Counts) -> Result<(),
         Err((2, _)) => "damaged files: refused 2",
         Err((3, _)) => "damaged files: refused 3",
         Err((4, _)) => "damaged files: refused 4",
+        Err((12, _)) => "damaged files: refused 12",
         Err(_) => "damaged files: refused 5 to 7",
     });
     let at = |e: String| format!("{e}; file {file:?}");
     located(&file, random.below(records.len() + 2)).map_err(at)?;
+    by_reading("a damaged file", &file, expected, seed).map_err(at)
+}
+
+/// A file in one call, in loading and in conversion, against the reading; `expected` is its load by the reading.
+fn by_reading(what: &str, file: &[u8], expected: Result<Graph, Refusal>, seed: u64) -> Result<(), String> {
     let walked = expected.as_ref().map(Graph::whole_walk).map_err(|&r| r);
-    scheduled("schedule of a damaged file", &file, walked.as_ref().map_err(|&r| r), seed).map_err(at)?;
-    same_outcome("load of a damaged file", &sawhekonu::load(&file), expected).map_err(at)?;
-    same_outcome("conversion of a damaged file", &sawhekonu::from_circuit(&file), Graph::from_circuit(&file)).map_err(at)
+    scheduled(&format!("schedule of {what}"), file, walked.as_ref().map_err(|&r| r), seed)?;
+    same_outcome(&format!("load of {what}"), &sawhekonu::load(file), expected)?;
+    same_outcome(&format!("conversion of {what}"), &sawhekonu::from_circuit(file), Graph::from_circuit(file))
+}
+
+/// A circuit that may have empty sets (K2), every other one in a file with slack, against the reading alone: its file, and its records inserted one by
+/// one.
+pub fn alone(records: &[Record], seed: u64, counts: &mut Counts) -> Result<(), String> {
+    let parts = parts_of(records);
+    let file = if seed % 2 == 0 { file_of(&parts) } else { with_slack(&parts, seed) };
+    let expected = Graph::load(&file);
+    counts.add(match &expected {
+        Ok(_) => "circuits of ours alone: accepted",
+        Err((12, _)) => "circuits of ours alone: refused 12",
+        Err(_) => "circuits of ours alone: refused for another cause",
+    });
+    by_reading("a file of ours alone", &file, expected, seed)?;
+    let (mut reading, mut graph) = (Graph::default(), CircuitDag::new());
+    for part in &parts {
+        let expected = reading.insert(part, 0).map_or_else(refused, accepted);
+        let x = graph.insert(part);
+        same("insertion beside empty sets", x.answer, expected)?;
+        graph = x.graph;
+    }
+    same("graph beside empty sets", &views::ours(&graph)?, &reading)
 }
 
 /// A damaged record on the graph of the others.

@@ -34,6 +34,11 @@ impl Record {
         Record { front, kind: 0, label: 0, qubits: Qubits::All, registers: Registers::None }
     }
 
+    /// A Set with mask zero.
+    pub fn has_empty_set(&self) -> bool {
+        self.qubits == Qubits::Set(0)
+    }
+
     pub fn bytes(&self) -> Vec<u8> {
         let (form, mask) = match self.qubits {
             Qubits::None => (0, 0),

@@ -64,6 +64,8 @@ pub fn main() {
     let list = Record { front: false, kind: 0, label: 0, qubits: Qubits::None, registers: Registers::Set((0..25).map(|i| (0, i)).collect()) };
     let file = file_of(&parts_of(&[list]));
     show("B None/Set, 25 entries", "load", format!("{} entries", given::load(&file).last_operation_involving_classical().len()), format!("{:?}", sawhekonu::load(&file).answer));
+    let file = file_of(&parts_of(&[gate(0), Record::all(false)]));
+    show("B{} B All", "load", "not run: K2".to_string(), format!("{:?}", sawhekonu::load(&file).answer));
     let file = file_of(&parts_of(&[front(1)]));
     let mut circuit = original::Circuit::new();
     circuit.add_operation(given::operation_of(&front(1).bytes()));

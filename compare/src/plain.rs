@@ -1,4 +1,4 @@
-//! Load and blocks on the same arrays, in plain Rust and in place, with every check of document 01, K1 and K3 and no proof: how fast it can be.
+//! Load and blocks on the same arrays, in plain Rust and in place, with every check of document 01, K1, K2 and K3 and no proof: how fast it can be.
 use crate::sawhekonu::{Answer, CircuitDag, Commuting, Edges, End, Nodes, Registers, NONE};
 
 const ABSENT: u16 = 65535;
@@ -159,9 +159,7 @@ fn join_set(mask: u64, v: u16, near: &mut End, far: &mut End, links: &mut Links)
             }
         }
     }
-    if mask != 0 {
-        near.block[v as usize] = true;
-    }
+    near.block[v as usize] = true;
     if links.count == 0 {
         far.block[v as usize] = true;
     }
@@ -235,6 +233,9 @@ pub fn load(file: &[u8]) -> Result<CircuitDag, Answer> {
         if !keeps_rule(part) {
             return Err(refused(4, i));
         }
+        if part[2] == 2 && mask_of(part) == 0 {
+            return Err(refused(12, i));
+        }
         let (v, front, kind, form) = (i as u16, part[0] == 1, part[1], part[2]);
         dag.nodes.kind[i] = kind;
         dag.nodes.form[i] = form;
@@ -255,7 +256,7 @@ pub fn load(file: &[u8]) -> Result<CircuitDag, Answer> {
                 let mask = mask_of(part);
                 join_set(mask, v, near, far, &mut links);
                 known = (known.0 | mask, known.1 | mask & !known.0);
-                some = (some.0 || mask != 0, some.1 || links.count == 0);
+                some = (true, some.1 || links.count == 0);
             }
             (known_first, known_last) = if front { known } else { (known.1, known.0) };
             (some_first, some_last) = if front { some } else { (some.1, some.0) };

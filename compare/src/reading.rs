@@ -1,5 +1,5 @@
-//! An independent reading of document 01, K1 and K3, written from the documents alone, on sets and maps: what a file, an insertion, a query, a step of
-//! the walk and a conversion answer, refusals included. It decides where the original has no say.
+//! An independent reading of document 01, K1, K2 and K3, written from the documents alone, on sets and maps: what a file, an insertion, a query, a step
+//! of the walk and a conversion answer, refusals included. It decides where the original has no say.
 use crate::sawhekonu::CircuitDag;
 use std::collections::{BTreeMap, BTreeSet};
 
@@ -120,6 +120,14 @@ impl Graph {
 
     /// One record; `index` is what a refusal returns. The graph stays as it was on a refusal.
     pub fn insert(&mut self, part: &[u8], index: usize) -> Result<usize, Refusal> {
+        if record(part).is_some_and(|r| r.form == 2 && r.qubits.is_empty()) {
+            return Err((12, Some(index)));
+        }
+        self.insert_any_set(part, index)
+    }
+
+    /// The same without K2, so that an empty set is taken: for the list of crates/replay, which was drawn so.
+    pub fn insert_any_set(&mut self, part: &[u8], index: usize) -> Result<usize, Refusal> {
         let r = record(part).ok_or((4, Some(index)))?;
         if self.size() == 512 {
             return Err((5, Some(0)));

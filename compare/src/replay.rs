@@ -135,7 +135,19 @@ fn questions(random: &mut Random, n: usize, number: usize) -> Vec<Question> {
         .collect()
 }
 
-/// Document 01's bench table, then circuits that take a way that none before took, then others.
+/// The ways that a circuit's insertions take; an empty set is taken too, as the list was drawn before K2.
+fn ways_of(records: &[Record]) -> BTreeSet<String> {
+    let mut g = Graph::default();
+    let mut ways = BTreeSet::new();
+    for (i, r) in records.iter().enumerate() {
+        ways.extend(branches(&g, r));
+        g.insert_any_set(&r.bytes(), i).expect("small circuits are within the limits");
+    }
+    ways
+}
+
+/// Document 01's bench table, then circuits that take a way that none before took, then others. Of those drawn, the ones with an empty set are left out,
+/// since the original is run only on circuits without (K2); circuits that take the ways which only those had taken follow.
 fn items(number: usize) -> Vec<Item> {
     let mut random = Random::new(2026);
     let gate = Record::gate;
@@ -153,31 +165,40 @@ fn items(number: usize) -> Vec<Item> {
         vec![Record::all(back), Record::all(back), gate(back, 8)],
         vec![bit(1, 2), bit(2, 1), classical(Registers::All(2)), classical(Registers::Set(vec![(1, 0)]))],
     ];
-    let mut seen = BTreeSet::new();
-    let mut items = Vec::new();
+    let (mut seen, mut taken) = (BTreeSet::new(), BTreeSet::new());
+    let (mut items, mut drawn) = (Vec::new(), 0);
     let mut misses = 0;
     let mut candidates = table.into_iter();
-    while items.len() < number {
+    while drawn < number {
         let from_table = candidates.next();
         let keep = from_table.is_some() || misses > 3000;
         let records = from_table.unwrap_or_else(|| small_circuit(&mut random));
         let converted = records.iter().all(|r| !r.front) && random.one_in(3);
-        let mut g = Graph::default();
-        let mut ways = BTreeSet::new();
-        for (i, r) in records.iter().enumerate() {
-            ways.extend(branches(&g, r));
-            g.insert(&r.bytes(), i).expect("small circuits are within the limits");
-        }
+        let ways = ways_of(&records);
         let new = ways.difference(&seen).count();
         if new == 0 && !keep {
             misses += 1;
             continue;
         }
-        seen.extend(ways);
+        seen.extend(ways.iter().cloned());
         let questions = questions(&mut random, records.len(), if new > 0 { 3 } else { 2 });
-        items.push(Item { converted, records, questions });
+        drawn += 1;
+        if !records.iter().any(Record::has_empty_set) {
+            taken.extend(ways);
+            items.push(Item { converted, records, questions });
+        }
     }
-    println!("{} circuits, {} ways through an insertion", items.len(), seen.len());
+    let kept = items.len();
+    for _ in 0..3000 {
+        let records = small_circuit(&mut random);
+        let ways = ways_of(&records);
+        if !records.iter().any(Record::has_empty_set) && !ways.is_subset(&taken) {
+            taken.extend(ways);
+            let questions = questions(&mut random, records.len(), 3);
+            items.push(Item { converted: false, records, questions });
+        }
+    }
+    println!("{drawn} circuits drawn, {kept} without an empty set, {} in all, {} ways through an insertion", items.len(), taken.len());
     items
 }
 

@@ -1,5 +1,5 @@
 //! The comparison: exhaustive small circuits, random ones up to every limit, long register lists, queries, steps from any state, conversions, damaged
-//! files, unsound graphs.
+//! files, unsound graphs; and, without the original, circuits with empty sets.
 use crate::checks::{self, Check, Counts};
 use crate::circuits::{Qubits, Random, Record, Registers};
 use std::collections::BTreeSet;
@@ -20,6 +20,9 @@ fn shrink(check: Check, records: &[Record], seed: u64) -> (Vec<Record>, String) 
     }
     (smallest, message)
 }
+
+/// How a circuit of so many records is drawn.
+type Make = fn(&mut Random, usize) -> Vec<Record>;
 
 struct Runner {
     counts: Counts,
@@ -42,7 +45,7 @@ impl Runner {
     }
 
     /// So many circuits of low to high records, as `make` draws them.
-    fn draw(&mut self, what: &str, check: Check, make: fn(&mut Random, usize) -> Vec<Record>, random: &mut Random, (low, high, number): (usize, usize, u64)) {
+    fn draw(&mut self, what: &str, check: Check, make: Make, random: &mut Random, (low, high, number): (usize, usize, u64)) {
         for seed in 0..number {
             let n = low + random.below(high - low + 1);
             let records = make(random, n);
@@ -52,22 +55,22 @@ impl Runner {
     }
 
     /// Every list of up to `length` letters.
-    fn exhaust(&mut self, what: &str, alphabet: &[Record], length: usize) {
+    fn exhaust(&mut self, what: &str, check: Check, alphabet: &[Record], length: usize) {
         let mut number = 0;
         let mut list = Vec::new();
-        self.extend(what, alphabet, length, &mut list, &mut number);
+        self.extend(what, check, alphabet, length, &mut list, &mut number);
         self.say(&format!("all lists of up to {length} records over {} ({what})", alphabet.len()), number);
     }
 
-    fn extend(&mut self, what: &str, alphabet: &[Record], left: usize, list: &mut Vec<Record>, number: &mut u64) {
-        self.check(what, checks::circuit, list, *number);
+    fn extend(&mut self, what: &str, check: Check, alphabet: &[Record], left: usize, list: &mut Vec<Record>, number: &mut u64) {
+        self.check(what, check, list, *number);
         *number += 1;
         if left == 0 {
             return;
         }
         for letter in alphabet {
             list.push(Record { label: list.len() as u16, ..letter.clone() });
-            self.extend(what, alphabet, left - 1, list, number);
+            self.extend(what, check, alphabet, left - 1, list, number);
             list.pop();
         }
     }
@@ -88,9 +91,9 @@ fn both_ends(letters: Vec<(u8, Qubits, Registers)>) -> Vec<Record> {
         .collect()
 }
 
-/// Every set of 3 qubits, and All.
+/// Every set of 3 qubits but the empty one, and All.
 fn qubit_alphabet() -> Vec<Record> {
-    let mut letters: Vec<_> = (0..8).map(|mask| (0, Qubits::Set(mask), Registers::None)).collect();
+    let mut letters: Vec<_> = (1..8).map(|mask| (0, Qubits::Set(mask), Registers::None)).collect();
     letters.push((0, Qubits::All, Registers::None));
     both_ends(letters)
 }
@@ -119,7 +122,21 @@ fn mixed_alphabet() -> Vec<Record> {
         (5, Qubits::Set(3), Registers::All(1)),
         (5, Qubits::All, Registers::AllQubits(1)),
         (0, Qubits::All, Registers::Set(vec![(1, 0), (1, 1)])),
-        (5, Qubits::Set(0), Registers::Set(vec![(2, 7)])),
+    ])
+}
+
+/// Empty sets of kinds 0 and 5, with registers and without, and records that are refused 7 or accepted beside them.
+fn empty_set_alphabet() -> Vec<Record> {
+    both_ends(vec![
+        (0, Qubits::Set(0), Registers::None),
+        (0, Qubits::Set(0), Registers::Set(vec![(2, 7)])),
+        (5, Qubits::Set(0), Registers::None),
+        (5, Qubits::Set(0), Registers::All(1)),
+        (0, Qubits::Set(1), Registers::None),
+        (0, Qubits::All, Registers::None),
+        (5, Qubits::None, Registers::All(1)),
+        (2, Qubits::None, Registers::Definition(1, 2)),
+        (4, Qubits::None, Registers::Definition(1, 257)),
     ])
 }
 
@@ -174,6 +191,29 @@ pub fn random_circuit(random: &mut Random, n: usize) -> Vec<Record> {
         .collect()
 }
 
+/// The circuit with no qubit where it has an empty set: the original is run only on files without (K2).
+fn without_empty_sets(mut records: Vec<Record>) -> Vec<Record> {
+    records.iter_mut().filter(|r| r.has_empty_set()).for_each(|r| r.qubits = Qubits::None);
+    records
+}
+
+fn good_circuit(random: &mut Random, n: usize) -> Vec<Record> {
+    without_empty_sets(random_circuit(random, n))
+}
+
+fn good_list_circuit(random: &mut Random, n: usize) -> Vec<Record> {
+    without_empty_sets(list_circuit(random, n))
+}
+
+/// A circuit of which at least one record has an empty set.
+fn empty_set_circuit(random: &mut Random, n: usize) -> Vec<Record> {
+    let mut records = random_circuit(random, n);
+    let i = random.below(n);
+    let registers = random_registers(random, false);
+    records[i] = Record { kind: if random.one_in(2) { 5 } else { 0 }, qubits: Qubits::Set(0), registers, ..records[i].clone() };
+    records
+}
+
 /// A list of so many keys.
 fn list_of(random: &mut Random, count: usize, indices: usize) -> Registers {
     let mut keys = BTreeSet::new();
@@ -219,39 +259,52 @@ fn list_circuit(random: &mut Random, n: usize) -> Vec<Record> {
 fn long_lists(runner: &mut Runner, part: u64) {
     let mut random = Random::new(24);
     for (low, high, number) in [(1, 12, 40_000), (13, 64, 2_000), (512, 512, 40)] {
-        runner.draw("circuits with register lists of 17 to 24 entries", checks::circuit, list_circuit, &mut random, (low, high, number / part));
+        runner.draw("circuits with register lists of 17 to 24 entries", checks::circuit, good_list_circuit, &mut random, (low, high, number / part));
     }
-    let damaged: [(&str, Check); 2] = [("damaged files with such lists", checks::damaged), ("damaged records with such lists", checks::damaged_record)];
-    for (what, check) in damaged {
-        runner.draw(what, check, list_circuit, &mut random, (1, 5, 40_000 / part));
+    let damaged: [(&str, Check, Make); 2] = [
+        ("damaged files with such lists", checks::damaged, list_circuit),
+        ("damaged records with such lists", checks::damaged_record, good_list_circuit),
+    ];
+    for (what, check, make) in damaged {
+        runner.draw(what, check, make, &mut random, (1, 5, 40_000 / part));
+    }
+}
+
+/// Circuits with empty sets (K2), ours alone.
+fn empty_sets(runner: &mut Runner, depth: usize, part: u64) {
+    runner.exhaust("empty sets and others, both ends, ours alone", checks::alone, &empty_set_alphabet(), depth - 1);
+    let mut random = Random::new(12);
+    for (low, high, number) in [(1, 12, 40_000), (13, 64, 4_000), (400, 512, 40)] {
+        runner.draw("circuits with empty sets, ours alone", checks::alone, empty_set_circuit, &mut random, (low, high, number / part));
     }
 }
 
 pub fn main(scale: usize) {
     let mut runner = Runner { counts: Counts::default(), started: Instant::now() };
     let depth = if scale == 0 { 3 } else { 5 };
-    runner.exhaust("sets of 3 qubits and All, both ends", &qubit_alphabet(), depth);
-    runner.exhaust("register forms, both ends", &register_alphabet(), depth);
-    runner.exhaust("qubits and registers, both ends", &mixed_alphabet(), depth - 1);
+    runner.exhaust("sets of 3 qubits and All, both ends", checks::circuit, &qubit_alphabet(), depth);
+    runner.exhaust("register forms, both ends", checks::circuit, &register_alphabet(), depth);
+    runner.exhaust("qubits and registers, both ends", checks::circuit, &mixed_alphabet(), depth - 1);
     let mut random = Random::new(7);
     let part = if scale == 0 { 20 } else { 1 };
     for (low, high, number) in [(0, 12, 200_000), (13, 64, 12_000), (65, 256, 800), (400, 512, 200)] {
-        runner.draw("random circuits", checks::circuit, random_circuit, &mut random, (low, high, number / part));
+        runner.draw("random circuits", checks::circuit, good_circuit, &mut random, (low, high, number / part));
     }
     for seed in 0..40 / part.min(40) {
         let records = limit_circuit(&mut random, seed as usize);
         runner.check("circuits past the limits", checks::circuit, &records, seed);
     }
     runner.say("circuits past 512 nodes, 2,048 edges, 256 register entries", 40 / part);
-    let damaged: [(&str, Check, u64); 3] = [
-        ("damaged files", checks::damaged, 300_000),
-        ("damaged records in single insertions", checks::damaged_record, 200_000),
-        ("damaged graphs", checks::damaged_graph, 200_000),
+    let damaged: [(&str, Check, Make, u64); 3] = [
+        ("damaged files", checks::damaged, random_circuit, 300_000),
+        ("damaged records in single insertions", checks::damaged_record, good_circuit, 200_000),
+        ("damaged graphs", checks::damaged_graph, good_circuit, 200_000),
     ];
-    for (what, check, number) in damaged {
-        runner.draw(what, check, random_circuit, &mut random, (0, 8, number / part));
+    for (what, check, make, number) in damaged {
+        runner.draw(what, check, make, &mut random, (0, 8, number / part));
     }
     long_lists(&mut runner, part);
+    empty_sets(&mut runner, depth, part);
     println!();
     for (what, number) in &runner.counts.0 {
         println!("{what}: {number}");
@@ -277,5 +330,5 @@ fn limit_circuit(random: &mut Random, number: usize) -> Vec<Record> {
     };
     records.extend(random_circuit(random, 20));
     records.iter_mut().enumerate().for_each(|(i, r)| r.label = i as u16);
-    records
+    without_empty_sets(records)
 }
