@@ -1,5 +1,5 @@
 /* A host in C: loads a circuit file and prints its blocks, then calls every function of include/sawhekonu.h on cases whose answers follow from
- * document 01 and K1 by hand, and measures the stack that each call takes. It writes a line a call, which examples/host.stdout has, and ends in
+ * document 01, K1 and K2 by hand, and measures the stack that each call takes. It writes a line a call, which examples/host.stdout has, and ends in
  * status 1 at the first answer that is another. From the root:
  *   rt staticlib host
  *   cc -std=c11 -Iinclude examples/host.c target/staticlib/libhost.a -pthread -o target/host && target/host examples/case2.circuit */
@@ -461,6 +461,31 @@ static void torn_files(void) {
     holds("insert of a cut record", same_dag(&x.graph, &case2));
 }
 
+/* B{0}, a Bit register, B{}: 12 with the record's number, 0 on insertion; the conversion inserts the definition first and still names record 2 */
+static void gates_on_nothing(void) {
+    uint8_t first[14], one[17], nothing[14], file[64];
+    gate(first, 0, 1, 0);
+    bit(one, 1, 2);
+    gate(nothing, 0, 0, 0);
+    const uint8_t *records[] = {first, one, nothing};
+    const size_t lengths[] = {14, 17, 14};
+    size_t length = file_of(file, 3, records, lengths);
+    sawhekonu_dag empty = sawhekonu_new();
+    sawhekonu_graph_answer g = sawhekonu_load(file, length);
+    answered("load of an empty set", g.answer, SAWHEKONU_EMPTY_SET, 2);
+    holds("load of an empty set", same_dag(&g.graph, &empty));
+    g = sawhekonu_from_circuit(file, length);
+    answered("from_circuit of an empty set", g.answer, SAWHEKONU_EMPTY_SET, 2);
+    holds("from_circuit of an empty set", same_dag(&g.graph, &empty));
+    answered("schedule of an empty set", sawhekonu_schedule(file, length, buffer, ROOM), SAWHEKONU_EMPTY_SET, 2);
+    wrote("schedule of an empty set", 0, none);
+    g = sawhekonu_insert(case2, nothing, 14);
+    answered("insert of an empty set", g.answer, SAWHEKONU_EMPTY_SET, 0);
+    holds("insert of an empty set", same_dag(&g.graph, &case2));
+    nothing[1] = 6;
+    answered("insert of an empty set of kind 6", sawhekonu_insert(case2, nothing, 14).answer, SAWHEKONU_BAD_RECORD, 0);
+}
+
 static void refused_queries(void) {
     const uint16_t layer[] = {1, 2};
     const size_t absent[] = {3, 65535, 65536, 65536 + 2, SIZE_MAX};
@@ -676,6 +701,7 @@ int main(int count, char **words) {
     registers();
     accessors();
     torn_files();
+    gates_on_nothing();
     slack_between_records();
     refused_queries();
     unsound_graphs();

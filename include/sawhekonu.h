@@ -43,7 +43,8 @@ enum sawhekonu_refusal {
     SAWHEKONU_ABSENT = 8,            /* node absent, also in a walk's current set; a walk's byte over 1; record to be read absent */
     SAWHEKONU_NOT_IN_LAYER = 9,      /* node not in the given layer */
     SAWHEKONU_SHORT_BUFFER = 10,     /* buffer shorter than the answer */
-    SAWHEKONU_UNSOUND = 11           /* graph isn't sound; a block's byte over 1 */
+    SAWHEKONU_UNSOUND = 11,          /* graph isn't sound; a block's byte over 1 */
+    SAWHEKONU_EMPTY_SET = 12         /* a Set with mask zero, a gate on no qubit; value: the record, 0 on insertion */
 };
 
 /* What each node keeps, at its number; count of them count. */
@@ -151,10 +152,10 @@ sawhekonu_place_answer sawhekonu_locate_record(const uint8_t *file, size_t file_
  * then 10. Value: how many blocks there are; one entry a record is written, so that SAWHEKONU_RECORDS entries always suffice. It is the load and then
  * the whole walk of its graph.
  *
- * The promise, where no pulse has an empty qubit set and, with pulses at both ends, at most one takes all qubits. A pulse is a record of qubit form All
- * or Set; two clash if they share a qubit or one takes all. Each pulse has a number below the value. Of two clashing pulses the earlier in the circuit
- * has the smaller number. Every other numbering from 0 that does so gives no pulse a smaller number, and uses no fewer different numbers. The value is
- * how many different ones were written. */
+ * The promise, for files of which at most one pulse takes all qubits where there are pulses at both ends. A pulse is a record of qubit form All or Set;
+ * two clash if they share a qubit or one takes all. Each pulse has a number below the value. Of two clashing pulses the earlier in the circuit has the
+ * smaller number. Every other numbering from 0 that does so gives no pulse a smaller number, and uses no fewer different numbers. The value is how many
+ * different ones were written. */
 sawhekonu_answer sawhekonu_schedule(const uint8_t *file, size_t file_length, uint16_t *buffer, size_t buffer_length);
 
 /* ---- making a graph */
@@ -162,18 +163,18 @@ sawhekonu_answer sawhekonu_schedule(const uint8_t *file, size_t file_length, uin
 /* The empty graph. */
 sawhekonu_dag sawhekonu_new(void);
 
-/* The graph of all records of a file, inserted in file order, each at the end that its byte 0 names. Refused 2, 1, 3, then per record 4 to 7, with
- * the empty graph. Value: 0. */
+/* The graph of all records of a file, inserted in file order, each at the end that its byte 0 names. Refused 2, 1, 3, then per record 4, 12, 6, 7,
+ * with the empty graph. Value: 0. */
 sawhekonu_graph_answer sawhekonu_load(const uint8_t *file, size_t file_length);
 
-/* The graph after one insertion of the record's bytes. Refused 11, 4, 5, 6, 7, with the graph that came. Value: the new node's number. */
+/* The graph after one insertion of the record's bytes. Refused 11, 4, 12, 5, 6, 7, with the graph that came. Value: the new node's number. */
 sawhekonu_graph_answer sawhekonu_insert(sawhekonu_dag dag, const uint8_t *part, size_t part_length);
 
 /* Whether the graph is sound: every clause of document 01, and every byte of both blocks 0 or 1. Refuses nothing. */
 bool sawhekonu_is_sound(sawhekonu_dag dag);
 
 /* From a circuit: kinds 1 to 5 in file order, then kind 0, all at the back; a front record is refused 4. Refused as sawhekonu_load is, but 4 is
- * tested for all records before the first insertion. Value: 0. */
+ * tested for all records before the first insertion; 12, 6 and 7 come in the order of insertion, with the record's number in the file. Value: 0. */
 sawhekonu_graph_answer sawhekonu_from_circuit(const uint8_t *file, size_t file_length);
 
 /* To a circuit: kinds 1 to 5 by place, then kind 0 by place, as node numbers. Refused 11, 10. Value: how many entries were written. 512 entries
