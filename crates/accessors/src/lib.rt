@@ -1,4 +1,6 @@
 // The source's remaining accessors, as queries on a handed-in graph. The rules are in specs/.
+#![tactic(auto)]
+
 ghost use Rattle.std.specs.Prelude.{◌≡◌, ◌&&◌, ◌≤◌, eqb};
 ghost use Rattle.graph.specs.Dag.{at_qubit, entries_of};
 ghost use Rattle.accessors.specs.Accessors.{operation_of, node_of_key, get as getRule, commuting_operations, first_parallel_block, last_parallel_block};
@@ -10,7 +12,7 @@ use queries::{Query, answer_list, answer_marked};
 
 // What a node keeps.
 #[repr(C)]
-#[derive(Drop)]
+#[derive(Clone, Copy)]
 pub struct KeptNode {
     pub kind: u8,
     pub form: u8,
@@ -19,14 +21,14 @@ pub struct KeptNode {
 }
 
 // What `get` answers.
-#[derive(Drop)]
+#[derive(Clone, Copy)]
 pub enum Got {
     Node(KeptNode),
     Refused(Refusal),
 }
 
 // The operation that a map names, if any.
-#[derive(Drop)]
+#[derive(Clone, Copy)]
 pub enum Operation {
     Node(NodeIndex),
     None,

@@ -1,4 +1,6 @@
 // The blocks of a circuit file.
+#![tactic(auto)]
+
 fn main() {
     standard_io::print_blocks();
 }

@@ -1,4 +1,6 @@
 // The blocks of a circuit file that is loaded in K6's way.
+#![tactic(auto)]
+
 use insertion::LoadingRule;
 
 fn main() {

@@ -1,5 +1,7 @@
 // The program `blocks` on several files: on standard input each stands behind its length in two bytes, little-endian. The text for each
 // file follows a line with its length.
+#![tactic(auto)]
+
 use libc::{STDIN_FILENO, STDOUT_FILENO};
 
 // The text for one file, behind a line with its length.

@@ -2,6 +2,8 @@
 // records inserted one by one in that way, and then in both ways by turns, behind which its first record once more, and again on a graph that is
 // not sound. On standard input each file stands behind its length in two bytes, little-endian. Of a graph its counts, both ends and the
 // successors of some nodes are shown. tools/graph_answers.py computes the same from the documents.
+#![tactic(auto)]
+
 use file::{FileCheck, Outcome, Refusal, RefusalValue};
 use graph::{CircuitDag, NodeIndex};
 use insertion::{Answer, LoadingRule};

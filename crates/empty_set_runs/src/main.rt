@@ -1,6 +1,8 @@
 // Records without a qubit (K2): files loaded, converted, and their records inserted one by one, then the first record on a graph that is not sound.
 // On standard input each file stands behind its length in two bytes, little-endian. Behind each answer stand the graph's counts of nodes, edges and
 // register entries, since a refusal leaves the graph or gives the empty one. tools/graph_answers.py computes the same from the documents.
+#![tactic(auto)]
+
 use file::{Outcome, Refusal, RefusalValue};
 use graph::CircuitDag;
 use insertion::{Answer, Loaded};

@@ -1,6 +1,8 @@
 // The circuit file of document 01, with K1's pairs, K2's refusal of empty sets and K3's longest list: header and pairs,
 // the record reader, the record parser, and the causes of refusal of every crate. The rules are in specs/, a file for
 // each module.
+#![tactic(auto)]
+
 mod pairs;
 mod records;
 mod refusals;
@@ -16,7 +18,7 @@ pub use records::{
 pub use refusals::{at_record, refusal_number, refusal_value};
 
 // "Causes of refusal" of all crates: definitions numberOf and valueOf give the document's number and value of each.
-#[derive(Drop)]
+#[derive(Clone, Copy)]
 pub enum Refusal {
     FileTooShort,
     TooManyRecords,
@@ -33,42 +35,42 @@ pub enum Refusal {
 }
 
 // What a refusal returns beside its number: nothing, or the pair or record that it is about.
-#[derive(Drop)]
+#[derive(Clone, Copy)]
 pub enum RefusalValue {
     Nothing,
     At(usize),
 }
 
 // What checking a file's header and pairs finds.
-#[derive(Drop)]
+#[derive(Clone, Copy)]
 pub enum FileCheck {
     Sound,
     Refused(Refusal),
 }
 
 // Whether a call that makes something of records was accepted.
-#[derive(Drop)]
+#[derive(Clone, Copy)]
 pub enum Outcome {
     Done,
     Refused(Refusal),
 }
 
 // Where a record stands in the file.
-#[derive(Drop)]
+#[derive(Clone, Copy)]
 pub enum Place {
     At { offset: usize, length: usize },
     Refused(Refusal),
 }
 
 // A record's part of the file, empty where it is refused, with the answer beside it.
-#[derive(Drop)]
+#[derive(Clone, Copy)]
 pub struct RecordPart<'a> {
     pub bytes: &'a [u8],
     pub place: Place,
 }
 
 // The qubits that a record involves (the source's InvolvedQubits); bit q of the mask is qubit q.
-#[derive(Drop)]
+#[derive(Clone, Copy)]
 pub enum InvolvedQubits {
     None,
     All,
@@ -77,7 +79,7 @@ pub enum InvolvedQubits {
 
 // The registers that a record involves (the source's InvolvedClassical), by name: a Set with the count of its entries, a
 // definition with its length.
-#[derive(Drop)]
+#[derive(Clone, Copy)]
 pub enum InvolvedClassical {
     None,
     All(u8),
@@ -87,14 +89,14 @@ pub enum InvolvedClassical {
 }
 
 // A key of a register map.
-#[derive(Drop)]
+#[derive(Clone, Copy)]
 pub struct RegisterKey {
     pub name: u8,
     pub index: u16,
 }
 
 // What a record says.
-#[derive(Drop)]
+#[derive(Clone, Copy)]
 pub struct Record {
     pub front: bool,
     pub kind: u8,
@@ -104,7 +106,7 @@ pub struct Record {
 }
 
 // What parsing a record finds.
-#[derive(Drop)]
+#[derive(Clone, Copy)]
 pub enum Parsed {
     Record(Record),
     Refused(Refusal),

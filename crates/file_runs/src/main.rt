@@ -1,5 +1,7 @@
 // Runs of the circuit file: every prefix and every change of one byte of a small good file, the limits, and slack between the parts.
 // Each distinct answer is printed with how often it came; tools/file_answers.py prints the same from the documents alone.
+#![tactic(auto)]
+
 ghost use Rattle.std.specs.Prelude.{◌≡◌, ◌<◌, ◌≤◌};
 ghost use Rattle.file.specs.Pairs.{Part, locate_record};
 

@@ -1,5 +1,6 @@
 // The circuit dependency graph with two open ends: its types, sets of nodes, the empty graph, and which graphs are sound. The rules are in specs/.
 // Every array holds plain numbers, so that a part of the graph can be lent to a function in place.
+#![tactic(auto)]
 
 pub mod sets;
 pub mod soundness;
@@ -12,16 +13,16 @@ pub use soundness::{is_before, is_register_map, is_sound};
 
 // A node number (the source's NodeIndex); 65535 where there is none.
 #[repr(C)]
-#[derive(Drop)]
+#[derive(Clone, Copy)]
 pub struct NodeIndex(pub u16);
 
 // A qubit number, 0 to 63.
-#[derive(Drop)]
+#[derive(Clone, Copy)]
 pub struct Qubit(pub u8);
 
 // What each node keeps, at its number.
 #[repr(C)]
-#[derive(Drop)]
+#[derive(Clone, Copy)]
 pub struct Nodes {
     pub count: usize,
     pub kind: [u8; 512],
@@ -32,7 +33,7 @@ pub struct Nodes {
 
 // Edge i runs from node from[i] to node to[i].
 #[repr(C)]
-#[derive(Drop)]
+#[derive(Clone, Copy)]
 pub struct Edges {
     pub count: usize,
     pub from: [u16; 2048],
@@ -41,7 +42,7 @@ pub struct Edges {
 
 // One end of the circuit: the map from qubit to node (65535: absent), the all-qubit node, the block.
 #[repr(C)]
-#[derive(Drop)]
+#[derive(Clone, Copy)]
 pub struct End {
     pub node: [u16; 64],
     pub all: NodeIndex,
@@ -50,7 +51,7 @@ pub struct End {
 
 // A register map: entry i has the key (name[i], index[i]) and the node node[i].
 #[repr(C)]
-#[derive(Drop)]
+#[derive(Clone, Copy)]
 pub struct Registers {
     pub count: usize,
     pub name: [u8; 256],
@@ -59,7 +60,7 @@ pub struct Registers {
 }
 
 #[repr(C)]
-#[derive(Drop)]
+#[derive(Clone, Copy)]
 pub struct Commuting {
     pub count: usize,
     pub list: [u16; 512],
@@ -68,7 +69,7 @@ pub struct Commuting {
 // The graph. The two counts stand between the large parts: where those lie side by side, the compiler gathers them in a copy of their own each
 // time that a graph is made of parts.
 #[repr(C)]
-#[derive(Drop)]
+#[derive(Clone, Copy)]
 pub struct CircuitDag {
     pub nodes: Nodes,
     pub backs: usize,

@@ -3,6 +3,8 @@
 // Graph, walk and answers cross by value as #[repr(C)] structs, a slice as its pointer and length, a node number as usize, a mark as a byte. What
 // the caller hands in is tested: bytes that are no marks are refused, as is a number that is no node's. What is left to the caller is what C
 // cannot say: each pointer has its length's elements, and lent slices do not overlap.
+#![tactic(auto)]
+
 mod accessing;
 mod answers;
 mod chains;
@@ -20,7 +22,7 @@ use graph::{Commuting, Edges, NodeIndex, Nodes, Registers};
 
 // One end of the circuit; a byte of the block is a mark, 0 or 1.
 #[repr(C)]
-#[derive(Drop)]
+#[derive(Clone, Copy)]
 pub struct HostEnd {
     pub node: [u16; 64],
     pub all: NodeIndex,
@@ -29,7 +31,7 @@ pub struct HostEnd {
 
 // The graph, its fields in the order of CircuitDag.
 #[repr(C)]
-#[derive(Drop)]
+#[derive(Clone, Copy)]
 pub struct HostDag {
     pub nodes: Nodes,
     pub backs: usize,
@@ -44,7 +46,7 @@ pub struct HostDag {
 
 // The walk's two sets; a byte is a mark, 0 or 1.
 #[repr(C)]
-#[derive(Drop)]
+#[derive(Clone, Copy)]
 pub struct HostWalk {
     pub current: [u8; 512],
     pub executed: [u8; 512],
@@ -53,7 +55,7 @@ pub struct HostWalk {
 // What a call answers. Refused: document 01's number, and the pair or record that it is about, 65535 if none. Accepted: 0, and what the call
 // found (a node, a count of entries or blocks; 65535 for a step that gives None).
 #[repr(C)]
-#[derive(Drop)]
+#[derive(Clone, Copy)]
 pub struct HostAnswer {
     pub refusal: usize,
     pub value: usize,
@@ -61,7 +63,7 @@ pub struct HostAnswer {
 
 // An answer with the graph.
 #[repr(C)]
-#[derive(Drop)]
+#[derive(Clone, Copy)]
 pub struct HostGraph {
     pub answer: HostAnswer,
     pub graph: HostDag,
@@ -69,7 +71,7 @@ pub struct HostGraph {
 
 // An answer with the walk.
 #[repr(C)]
-#[derive(Drop)]
+#[derive(Clone, Copy)]
 pub struct HostStep {
     pub answer: HostAnswer,
     pub walk: HostWalk,
@@ -77,7 +79,7 @@ pub struct HostStep {
 
 // An answer with the place of a record in the file; 0 and 0 where it is refused.
 #[repr(C)]
-#[derive(Drop)]
+#[derive(Clone, Copy)]
 pub struct HostPlace {
     pub answer: HostAnswer,
     pub offset: usize,
@@ -86,7 +88,7 @@ pub struct HostPlace {
 
 // An answer with what a node keeps; zeros where it is refused.
 #[repr(C)]
-#[derive(Drop)]
+#[derive(Clone, Copy)]
 pub struct HostNode {
     pub answer: HostAnswer,
     pub node: KeptNode,

@@ -1,4 +1,6 @@
 // Insertion at both ends and the load of a circuit file. The rules are in specs/.
+#![tactic(auto)]
+
 mod assembling;
 mod conversion;
 mod inserting;
@@ -13,27 +15,27 @@ pub use loading::{load, load_by};
 
 // The two ways to load and insert. A new qubit's entry at the far end becomes the all-qubit node of the near end (document 01), or of the
 // far end (K6); the new node where that is absent.
-#[derive(Drop)]
+#[derive(Clone, Copy)]
 pub enum LoadingRule {
     NearAll,
     FarAll,
 }
 
 // What an insertion answers, beside the graph.
-#[derive(Drop)]
+#[derive(Clone, Copy)]
 pub enum Answer {
     Node(NodeIndex),
     Refused(Refusal),
 }
 
-#[derive(Drop)]
+#[derive(Clone, Copy)]
 pub struct Inserted {
     pub answer: Answer,
     pub graph: CircuitDag,
 }
 
 // What a load answers, and the graph.
-#[derive(Drop)]
+#[derive(Clone, Copy)]
 pub struct Loaded {
     pub answer: Outcome,
     pub graph: CircuitDag,

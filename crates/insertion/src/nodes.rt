@@ -9,7 +9,7 @@ ghost use Rattle.graph.specs.Dag.{empty};
 use graph::{Commuting, NodeIndex, Nodes};
 
 // The nodes, the commuting list and the counts of insertions.
-#[derive(Drop)]
+#[derive(Clone, Copy)]
 pub(crate) struct NodeLists {
     pub nodes: Nodes,
     pub commuting: Commuting,

@@ -1,5 +1,7 @@
 // The limits: 512 nodes at either end and the 513th refused, 2,048 edges and one more refused, 256 register entries and one more refused, by one key
 // and by a list of 24; and, on a graph of 512 nodes, an empty set, refused 12 and not 5.
+#![tactic(auto)]
+
 ghost use Rattle.std.specs.Prelude.{◌≤◌, ◌<◌};
 
 use file::{Outcome, Refusal, RefusalValue};

@@ -1,5 +1,7 @@
 // The two ends and the edges of a graph: what a record's qubits do to them, at the back and, mirrored, at the front. The rules are in
 // specs/Links.antt.
+#![tactic(auto)]
+
 mod ends;
 mod records;
 
@@ -18,7 +20,7 @@ pub const NEAR_ALL: FarRule = false;
 pub const FAR_ALL: FarRule = true;
 
 // How many nodes there are, whether all records were accepted, and the ends and edges that join the nodes.
-#[derive(Drop)]
+#[derive(Clone, Copy)]
 pub struct LinkedRecords {
     pub accepted: usize,
     pub answer: Outcome,

@@ -1,4 +1,5 @@
 // What a graph answers into a lent buffer: the queries, and the conversion to a circuit. The rules are in specs/.
+#![tactic(auto)]
 
 mod conversion;
 mod queries;
@@ -11,14 +12,14 @@ pub use queries::{
 };
 
 // Node or record numbers in an order: the first count of the list.
-#[derive(Drop)]
+#[derive(Clone, Copy)]
 pub struct Order {
     pub count: usize,
     pub list: [u16; 512],
 }
 
 // What a query answers: how many entries it wrote to the lent buffer.
-#[derive(Drop)]
+#[derive(Clone, Copy)]
 pub enum Query {
     Entries(usize),
     Refused(Refusal),

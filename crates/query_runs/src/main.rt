@@ -2,6 +2,8 @@
 // too short and long, on nodes that are there and absent, and on a graph that is not sound; and on files that are refused
 // for each cause. On standard input each circuit file stands behind its length in two bytes, little-endian. Beside each
 // answer stands the start of the lent buffer, which held 9999. tools/graph_answers.py computes the same from document 01.
+#![tactic(auto)]
+
 use file::{Outcome, Refusal, RefusalValue};
 use graph::{CircuitDag, NodeIndex};
 use libc::{STDIN_FILENO, STDOUT_FILENO};

@@ -115,7 +115,7 @@ fn put_key(
 }
 
 // The new counts of the two maps; over 256 where one has no room.
-#[derive(Drop)]
+#[derive(Clone, Copy)]
 struct RegisterCounts {
     pub near: usize,
     pub far: usize,
@@ -363,7 +363,7 @@ fn enter_maps(
 }
 
 // The new counts of the maps first and last; over 256 where one has no room.
-#[derive(Drop)]
+#[derive(Clone, Copy)]
 pub(crate) struct EndCounts {
     pub first: usize,
     pub last: usize,

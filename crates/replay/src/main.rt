@@ -1,5 +1,7 @@
 // Circuits and queries from standard input, and what the library answers. The file stdout beside this crate was written from the original Rust's
 // answers to the same circuits (README.md), in the same form: sets ascending, appended nodes of a layer ascending.
+#![tactic(auto)]
+
 ghost use Rattle.std.specs.Prelude.{◌≡◌, ◌+◌, ◌<◌, ◌≤◌, min, length};
 
 use file::{Outcome, Refusal, RefusalValue};

@@ -1,4 +1,6 @@
 // From a circuit file to its block numbers in one call, whose contract says the block guarantee. The rules and the promise are in specs/.
+#![tactic(auto)]
+
 ghost use Rattle.std.specs.Prelude.{◌≡◌, ℕ};
 ghost use Rattle.file.specs.declared.Refusal.{Refusal};
 ghost use Rattle.insertion.specs.declared.LoadingRule.TheVariants.{NearAll, FarAll};

@@ -1,4 +1,6 @@
 // The programs `blocks` and `blocks_both_ends` as one function, so that every program that is run on an input runs this one.
+#![tactic(auto)]
+
 ghost use Rattle.insertion.specs.declared.LoadingRule.TheVariants.{NearAll};
 ghost use Rattle.standard_io.specs.Printing.{Printed};
 

@@ -3,6 +3,8 @@
 // graph and on one that is not sound. On standard input each circuit file stands behind its length in two bytes,
 // little-endian. Beside a step stand the sizes of its two sets and the start of the lent buffer, which held 9999.
 // tools/graph_answers.py computes the same from document 01.
+#![tactic(auto)]
+
 use accessors::{Got, Operation};
 use file::{Outcome, Refusal, RefusalValue, RegisterKey};
 use graph::{CircuitDag, NodeIndex, Qubit};

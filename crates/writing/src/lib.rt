@@ -1,6 +1,8 @@
 // Circuit files written from records: fields and records at a position of a lent buffer, and a whole file of gates,
 // without slack. A file of records reads again to just those records (specs/Writing.antt, FileReads). Every public
 // function is total.
+#![tactic(auto)]
+
 mod fields;
 mod gates;
 
@@ -9,7 +11,7 @@ use file::Refusal;
 pub use gates::write_gates;
 
 // What writing a file answers: its length, or why the buffer is as it was.
-#[derive(Drop)]
+#[derive(Clone, Copy)]
 pub enum Written {
     Bytes(usize),
     Refused(Refusal),

@@ -1,6 +1,8 @@
 // Files of gates, records and fields written into buffers with room to spare, just enough and one byte less, at positions up to the buffer's end,
 // past it and so far past it that the sum would wrap. Each buffer held 170s and is printed byte for byte, of a long one the start and the end.
 // tools/writing_answers.py computes the same from the documents.
+#![tactic(auto)]
+
 use file::Refusal;
 use libc::STDOUT_FILENO;
 use writing::Written;
