@@ -152,13 +152,13 @@ module _ (n : ℕ) (op op' : ℕ → Bool) (new : Bool) (same : (u : ℕ) → u 
       (λ (o : Old n op u). record { below = omega (arith, o.below); operation = same u o.below ∙ o.operation })
 
   module _ (near far : End) (x : Linked) (Out In Out' In' : ℕ → Type 0) (S : Side n op Out near far) (T : Side n op In far near) (J : Joins n op new near far x)
-      (out_Below : (u : ℕ) → Out u → u < n) (in-below : (u : ℕ) → In u → u < n)
+      (out_below : (u : ℕ) → Out u → u < n) (in-below : (u : ℕ) → In u → u < n)
       (out_cases : (u : ℕ) → Out' u → Out u ⊎ (member u x.others ≡ true))
       (in-cases : (u : ℕ) → In' u → In u ⊎ ((u ≡ n) × (is_empty x.others ≡ false))) where
     near-free : (u : ℕ) → get_or x.near.block u false ≡ true → Out' u → ⊥
     near-free u m o = ⊎_elim
         (λ (r : (u ≡ n) × (new ≡ true)). ⊎_elim
-        (λ (p : Out u). omega (arith, out_Below u p, r.0))
+        (λ (p : Out u). omega (arith, out_below u p, r.0))
         (λ (p : member u x.others ≡ true). omega (arith, (J.others u p).below, r.0))
         (out_cases u o))
         (λ (r : (get_or near.block u false ≡ true) × (member u x.others ≡ false)). ⊎_elim

@@ -61,15 +61,15 @@ module _ (k : InvolvedClassical) (near : Bool) (v : ℕ) (old : Registers) where
 -- ---- .. and in both
 
 -- the rule of a record whose registers are no Set makes each map from itself
-each_map : (k : InvolvedClassical) (s : List ℕ) (v : ℕ) (near far : Registers) → OneOf (0 ∷ 1 ∷ 2 ∷ 4 ∷ []) (tag_of the_type k)
+each_map : (k : InvolvedClassical) (s : List ℕ) (v : ℕ) (near far : Registers) → ((c : ℕ) → k ≡ Set c → ⊥)
     → registers_by k s v (maps_of near far) ≡ record { near = map_by k true v (entries_of near); far = map_by k false v (entries_of far) }
 each_map None s v near far h = refl
 each_map (All n) s v near far h = refl
 each_map (AllQubits n) s v near far h = refl
-each_map (Set c) s v near far h = elim h [ inl e ↦ absurd (omega arith) | inr g ↦ elim g [ inl e ↦ absurd (omega arith) | inr i ↦ elim i [ inl e ↦ absurd (omega arith) | inr e ↦ absurd (omega arith) ] ] ]
+each_map (Set c) s v near far h = absurd (h c refl)
 each_map (Definition n m) s v near far h = define_each (definition n v m 0) (maps_of near far)
 
-pub join_each : (k : InvolvedClassical) (s : List ℕ) (v : ℕ) (near far near' far' : Registers) → OneOf (0 ∷ 1 ∷ 2 ∷ 4 ∷ []) (tag_of the_type k)
+pub join_each : (k : InvolvedClassical) (s : List ℕ) (v : ℕ) (near far near' far' : Registers) → ((c : ℕ) → k ≡ Set c → ⊥)
     → Becomes near near' (map_by k true v (entries_of near)) → Becomes far far' (map_by k false v (entries_of far)) → BothBecome k s v near far near' far'
 join_each k s v near far near' far' h a b =
     let e = each_map k s v near far h in
@@ -90,7 +90,7 @@ pub joins_set : (k : InvolvedClassical) (s : List ℕ) (v : ℕ) (near far near'
 joins_set k s v near far near' far' c e b = rw e b
 
 -- near and far by the end of the insertion: a record without a Set
-ends_each : (front : Bool) (k : InvolvedClassical) (s : List ℕ) (v : ℕ) (first last first' last' : Registers) → OneOf (0 ∷ 1 ∷ 2 ∷ 4 ∷ []) (tag_of the_type k)
+ends_each : (front : Bool) (k : InvolvedClassical) (s : List ℕ) (v : ℕ) (first last first' last' : Registers) → ((c : ℕ) → k ≡ Set c → ⊥)
     → Becomes first first' (map_by k front v (entries_of first)) → Becomes last last' (map_by k (not front) v (entries_of last)) → EndsBecome front k s v first last first' last'
 ends_each true k s v first last first' last' h a b = record { both = join_each k s v first last first' last' h a b }
 ends_each false k s v first last first' last' h a b = record { both = join_each k s v last first last' first' h b a }
@@ -108,7 +108,7 @@ ends_back front k s v first last first' last' t b = record { both = rw t b }
 pub ends_nothing : (front : Bool) (k : InvolvedClassical) (s : List ℕ) (v : ℕ) (first last : Registers) → k ≡ None → Fits first → Fits last
     → EndsBecome front k s v first last first last
 ends_nothing front k s v first last e f g = subst (λ (x : InvolvedClassical). EndsBecome front x s v first last first last) (sym e)
-    (ends_each front None s v first last first last (inl refl) (stays first f) (stays last g))
+    (ends_each front None s v first last first last (λ c q. cc) (stays first f) (stays last g))
 
 -- ---- laws of the rule, for callers
 

@@ -95,7 +95,7 @@ module _ (g : CircuitDag) (s : sound g ≡ true) where
 
   pub joined : length g.commuting.list ≡ 512 → Joined g.edges.from g.edges.to g.edges.count
   joined full = let O = sound_told g full s in record {
-    room = O.IsEdge-count;
+    room = O.edge_count;
     from_low = λ j l. omega (arith, O.from-below j l, O.node-count);
     to_low = λ j l. omega (arith, O.to_below j l, O.node-count);
   }

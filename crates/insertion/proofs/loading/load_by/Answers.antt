@@ -1,0 +1,22 @@
+use mathlib.Core.Path.{sym, ◌∙◌}
+use native.Mathlib.Omega.{arith}
+use Rattle.insertion.proofs.LoadLaws.{bad_file, few, few_numbers, numbers-below, whole}
+use Rattle.insertion.proofs.loading.load_by.Goals as goal
+
+pub slice_bounds-insert_in_order-end : goal.slice_bounds-insert_in_order-end
+slice_bounds-insert_in_order-end c = omega (arith, few _ _ _ c.file_order-order.ensures c.record_count-n.ensures (sym c.check_file-found.ensures ∙ c.in-Sound.is))
+
+pub insert_in_order-requires : goal.insert_in_order-requires
+insert_in_order-requires c = let good = sym c.check_file-found.ensures ∙ c.in-Sound.is in let o = c.file_order-order.ensures in let n = c.record_count-n.ensures in
+    (good, numbers-below _ _ _ o n good, few_numbers _ _ _ o n good)
+
+pub returns-in-Refused : goal.returns-in-Refused
+returns-in-Refused c = c.not_loaded.ensures ∙ bad_file _ _ _ (sym c.check_file-found.ensures ∙ c.in-Refused.is)
+
+pub returns-in-Sound : goal.returns-in-Sound
+returns-in-Sound c =
+    let counted = c.before in
+    let told = counted.before in
+    let checked = told.before.before in
+    c.insert_in_order.ensures ∙ whole _ _ _ c.file-order.ensures counted.record-count.ensures
+    (sym checked.check-file.ensures ∙ told.enum_told.given.1) _ _ checked.before.far-rule.ensures
