@@ -15,8 +15,5 @@ returns-in-Refused c = c.not_loaded.ensures ∙ bad_file _ _ _ (sym c.check_file
 
 pub returns-in-Sound : goal.returns-in-Sound
 returns-in-Sound c =
-    let counted = c.before in
-    let told = counted.before in
-    let checked = told.before.before in
-    c.insert_in_order.ensures ∙ whole _ _ _ c.file-order.ensures counted.record-count.ensures
-    (sym checked.check-file.ensures ∙ told.enum_told.given.1) _ _ checked.before.far-rule.ensures
+    c.insert_in_order.ensures ∙ whole _ _ _ c.file_order-order.ensures c.record_count-n.ensures
+    (sym c.check_file-found.ensures ∙ c.in-Sound.is) _ _ c.far_rule-far.ensures
