@@ -1,6 +1,9 @@
 // The blocks of a circuit file.
 #![tactic(auto)]
 
-fn main() {
-    standard_io::print_blocks();
+use std::io;
+
+fn main(rt: HostRuntime) -> io::Result<()> {
+    standard_io::print_blocks(&rt)?;
+    Ok(())
 }

@@ -2,7 +2,9 @@
 #![tactic(auto)]
 
 use insertion::LoadingRule;
+use std::io;
 
-fn main() {
-    standard_io::print_blocks_by(LoadingRule::FarAll);
+fn main(rt: HostRuntime) -> io::Result<()> {
+    standard_io::print_blocks_by(&rt, LoadingRule::FarAll)?;
+    Ok(())
 }

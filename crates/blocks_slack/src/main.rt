@@ -1,6 +1,9 @@
 // The program `blocks` on a file of 65,600 bytes with slack before, between and behind its records, of which the last ends at byte 65,536.
 #![tactic(auto)]
 
-fn main() {
-    standard_io::print_blocks();
+use std::io;
+
+fn main(rt: HostRuntime) -> io::Result<()> {
+    standard_io::print_blocks(&rt)?;
+    Ok(())
 }
