@@ -6,7 +6,7 @@ ghost use Rattle.std.specs.Prelude.{◌≡◌, ◌<◌, ◌≤◌};
 ghost use Rattle.file.specs.Pairs.{Part, locate_record};
 
 use file::{FileCheck, Parsed, Place, RecordPart, Refusal, RefusalValue};
-use libc::STDOUT_FILENO;
+use std::io;
 
 // Seven records, of each register form, at both ends.
 const GOOD: [u8; 141] = [
@@ -96,31 +96,29 @@ fn slot(answer: FileCheck) -> usize
     }
 }
 
-fn print_answer(number: usize, at: usize) {
+fn print_answer(rt: &impl Print, number: usize, at: usize) -> io::Result<()> {
     if number == 0 {
-        io::write_all(STDOUT_FILENO, b"accepted");
-        return;
+        print!(rt; "accepted")?;
+        return Ok(());
     }
-    io::write_all(STDOUT_FILENO, b"refused ");
-    io::print_decimal(STDOUT_FILENO, number as u64);
+    print!(rt; "refused {number}")?;
     if at < 7 {
-        io::write_all(STDOUT_FILENO, b" at ");
-        io::print_decimal(STDOUT_FILENO, at as u64);
+        print!(rt; " at {at}")?;
     }
+    Ok(())
 }
 
-fn print_counts(counts: [u32; 104]) {
+fn print_counts(rt: &impl Print, counts: [u32; 104]) -> io::Result<()> {
     let mut k: usize = 0;
     while k < 104 {
         let times = counts[k];
         if times != 0 {
-            print_answer(k / 8, k % 8);
-            io::write_all(STDOUT_FILENO, b": ");
-            io::print_decimal(STDOUT_FILENO, times as u64);
-            io::write_all(STDOUT_FILENO, b"\n");
+            print_answer(rt, k / 8, k % 8)?;
+            println!(rt; ": {times}")?;
         }
         k += 1;
     }
+    Ok(())
 }
 
 // Adds one to a count; the runs stay far below its width.
@@ -212,137 +210,132 @@ fn entry_list(c: u8, n: usize, length: u8) -> [u8; 99]
 }
 
 // One line: what it is, then the answer to the first n bytes.
-fn print_limit(title: &[u8], bytes: &[u8], n: usize) {
+fn print_limit(rt: &impl Print, title: &[u8], bytes: &[u8], n: usize) -> io::Result<()> {
     let start: usize = 0;
     if bytes.len() < n {
-        return;
+        return Ok(());
     }
     let file = &bytes[start..n];
-    io::write_all(STDOUT_FILENO, title);
-    io::write_all(STDOUT_FILENO, b": ");
+    rt.write_all(title)?;
+    print!(rt; ": ")?;
     let answer = parse_all(file);
     match answer {
         FileCheck::Sound => {
-            io::write_all(STDOUT_FILENO, b"accepted");
+            print!(rt; "accepted")?;
         }
-        FileCheck::Refused(r) => print_refusal(r),
+        FileCheck::Refused(r) => print_refusal(rt, r)?,
     }
-    io::write_all(STDOUT_FILENO, b"\n");
+    println!(rt)
 }
 
-fn print_refusal(r: Refusal) {
-    io::write_all(STDOUT_FILENO, b"refused ");
-    io::print_decimal(STDOUT_FILENO, file::refusal_number(r) as u64);
+fn print_refusal(rt: &impl Print, r: Refusal) -> io::Result<()> {
+    print!(rt; "refused {}", file::refusal_number(r))?;
     let value = file::refusal_value(r);
     match value {
         RefusalValue::Nothing => {}
         RefusalValue::At(i) => {
-            io::write_all(STDOUT_FILENO, b" at ");
-            io::print_decimal(STDOUT_FILENO, i as u64);
+            print!(rt; " at {i}")?;
         }
     }
+    Ok(())
 }
 
-fn print_limits() {
-    io::write_all(STDOUT_FILENO, b"limits\n");
+fn print_limits(rt: &impl Print) -> io::Result<()> {
+    println!(rt; "limits")?;
     let zeros = [0u8; 3];
-    print_limit(b"no byte", &zeros, 0);
-    print_limit(b"one byte", &zeros, 1);
-    print_limit(b"no record", &zeros, 2);
-    print_limit(b"no record and a byte", &zeros, 3);
+    print_limit(rt, b"no byte", &zeros, 0)?;
+    print_limit(rt, b"one byte", &zeros, 1)?;
+    print_limit(rt, b"no record", &zeros, 2)?;
+    print_limit(rt, b"no record and a byte", &zeros, 3)?;
     let full = zero_records(512);
-    print_limit(b"512 records", &full, 9218);
-    print_limit(b"512 records, one byte less", &full, 9217);
-    print_limit(b"512 records, one byte more", &full, 9219);
-    print_limit(b"512 in the header alone", &full, 2);
+    print_limit(rt, b"512 records", &full, 9218)?;
+    print_limit(rt, b"512 records, one byte less", &full, 9217)?;
+    print_limit(rt, b"512 records, one byte more", &full, 9219)?;
+    print_limit(rt, b"512 in the header alone", &full, 2)?;
     let over = zero_records(513);
-    print_limit(b"513 in the header alone", &over, 2);
-    print_limit(b"513 records", &over, 9236);
+    print_limit(rt, b"513 in the header alone", &over, 2)?;
+    print_limit(rt, b"513 records", &over, 9236)?;
     let most = [255u8; 2];
-    print_limit(b"65535 in the header alone", &most, 2);
+    print_limit(rt, b"65535 in the header alone", &most, 2)
 }
 
 // A byte behind a space.
-fn print_byte(b: u8) {
-    io::write_all(STDOUT_FILENO, b" ");
-    io::print_decimal(STDOUT_FILENO, b as u64);
+fn print_byte(rt: &impl Print, b: u8) -> io::Result<()> {
+    print!(rt; " {b}")
 }
 
 // A record's bytes, as the reader hands them back; none where the record is absent.
-fn print_record(file: &[u8], i: usize) {
+fn print_record(rt: &impl Print, file: &[u8], i: usize) -> io::Result<()> {
     let part = read_bytes(file, i);
-    io::write_all(STDOUT_FILENO, b"record ");
-    io::print_decimal(STDOUT_FILENO, i as u64);
-    io::write_all(STDOUT_FILENO, b":");
+    print!(rt; "record {i}:")?;
     let mut k: usize = 0;
     while k < part.len() {
-        print_byte(part[k]);
+        print_byte(rt, part[k])?;
         k += 1;
     }
-    io::write_all(STDOUT_FILENO, b"\n");
+    println!(rt)
 }
 
 // Every record of the good file, and the one after the last.
-fn print_records() {
+fn print_records(rt: &impl Print) -> io::Result<()> {
     let file = GOOD;
     let mut i: usize = 0;
     while i < 8 {
-        print_record(&file, i);
+        print_record(rt, &file, i)?;
         i += 1;
     }
+    Ok(())
 }
 
 // One line: a count byte, how many entries there are, what else is to say, and the answer to a record of such a length.
-fn print_list(c: u8, n: usize, length: u8, more: &[u8])
+fn print_list(rt: &impl Print, c: u8, n: usize, length: u8, more: &[u8]) -> io::Result<()>
     requires { n ≤ 26 }
 {
-    io::print_decimal(STDOUT_FILENO, c as u64);
-    io::write_all(STDOUT_FILENO, b" and ");
-    io::print_decimal(STDOUT_FILENO, n as u64);
+    print!(rt; "{c} and {n}")?;
     let file = entry_list(c, n, length);
-    print_limit(more, &file, 6 + length as usize);
+    print_limit(rt, more, &file, 6 + length as usize)
 }
 
 // The same at the length that fits the entries.
-fn print_fitting(c: u8, n: usize)
+fn print_fitting(rt: &impl Print, c: u8, n: usize) -> io::Result<()>
     requires { n ≤ 26 }
 {
-    print_list(c, n, (15 + 3 * n) as u8, b"");
+    print_list(rt, c, n, (15 + 3 * n) as u8, b"")
 }
 
 // .. and of as many entries as the count byte says, one byte off that length.
-fn print_off(c: u8)
+fn print_off(rt: &impl Print, c: u8) -> io::Result<()>
     requires { c ≤ 26 }
 {
-    print_list(c, c as usize, 14 + 3 * c, b", one byte less");
-    print_list(c, c as usize, 16 + 3 * c, b", one byte more");
+    print_list(rt, c, c as usize, 14 + 3 * c, b", one byte less")?;
+    print_list(rt, c, c as usize, 16 + 3 * c, b", one byte more")
 }
 
 // Register lists about their limit, and about the one that K3 raised: the count byte and the entries.
-fn print_lists() {
-    io::write_all(STDOUT_FILENO, b"register lists\n");
-    print_fitting(0, 0);
-    print_fitting(14, 14);
-    print_fitting(15, 15);
-    print_fitting(16, 16);
-    print_fitting(17, 17);
-    print_fitting(16, 15);
-    print_fitting(16, 17);
-    print_fitting(17, 16);
-    print_fitting(17, 18);
-    print_fitting(24, 24);
-    print_fitting(25, 25);
-    print_fitting(24, 23);
-    print_fitting(24, 25);
-    print_fitting(25, 24);
-    print_fitting(25, 26);
-    print_off(16);
-    print_off(17);
-    print_off(24);
-    print_off(25);
+fn print_lists(rt: &impl Print) -> io::Result<()> {
+    println!(rt; "register lists")?;
+    print_fitting(rt, 0, 0)?;
+    print_fitting(rt, 14, 14)?;
+    print_fitting(rt, 15, 15)?;
+    print_fitting(rt, 16, 16)?;
+    print_fitting(rt, 17, 17)?;
+    print_fitting(rt, 16, 15)?;
+    print_fitting(rt, 16, 17)?;
+    print_fitting(rt, 17, 16)?;
+    print_fitting(rt, 17, 18)?;
+    print_fitting(rt, 24, 24)?;
+    print_fitting(rt, 25, 25)?;
+    print_fitting(rt, 24, 23)?;
+    print_fitting(rt, 24, 25)?;
+    print_fitting(rt, 25, 24)?;
+    print_fitting(rt, 25, 26)?;
+    print_off(rt, 16)?;
+    print_off(rt, 17)?;
+    print_off(rt, 24)?;
+    print_off(rt, 25)?;
     let mut twice = entry_list(24, 24, 87);
     twice[91] = 22;
-    print_limit(b"24 and 24, the last two the same", &twice, 93);
+    print_limit(rt, b"24 and 24, the last two the same", &twice, 93)
 }
 
 // A file of two records in a larger array, all zeros but its header and pairs.
@@ -357,102 +350,122 @@ fn two_parts(first: u16, first_length: u16, second: u16, second_length: u16) -> 
 }
 
 // Where the reader finds record i of a file.
-fn print_place(file: &[u8], i: usize) {
-    io::write_all(STDOUT_FILENO, b"  record ");
-    io::print_decimal(STDOUT_FILENO, i as u64);
-    io::write_all(STDOUT_FILENO, b": ");
+fn print_place(rt: &impl Print, file: &[u8], i: usize) -> io::Result<()> {
+    print!(rt; "  record {i}: ")?;
     let place = file::locate_record(file, i);
     match place {
         Place::At { offset, length } => {
-            io::print_decimal(STDOUT_FILENO, length as u64);
-            io::write_all(STDOUT_FILENO, b" bytes from ");
-            io::print_decimal(STDOUT_FILENO, offset as u64);
-            io::write_all(STDOUT_FILENO, b" on");
+            print!(rt; "{length} bytes from {offset} on")?;
         }
-        Place::Refused(r) => print_refusal(r),
+        Place::Refused(r) => print_refusal(rt, r)?,
     }
-    io::write_all(STDOUT_FILENO, b"\n");
+    println!(rt)
 }
 
 // The answer to the first n bytes of a file of two records, and where the reader finds them.
 fn print_two(
+    rt: &impl Print,
     title: &[u8],
     first: u16,
     first_length: u16,
     second: u16,
     second_length: u16,
     n: usize,
-) {
+) -> io::Result<()> {
     let bytes = two_parts(first, first_length, second, second_length);
     let start: usize = 0;
     if 131070 < n {
-        return;
+        return Ok(());
     }
-    print_limit(title, &bytes, n);
-    print_place(&bytes[start..n], 0);
-    print_place(&bytes[start..n], 1);
+    print_limit(rt, title, &bytes, n)?;
+    print_place(rt, &bytes[start..n], 0)?;
+    print_place(rt, &bytes[start..n], 1)
 }
 
 // K1: "the first offset is at least 2 + 4n, each later one at least the end of the previous part, and the last part ends at or before the file's end".
-fn print_slack() {
-    io::write_all(STDOUT_FILENO, b"slack\n");
-    print_two(b"none", 10, 14, 24, 14, 38);
-    print_two(b"before the first part", 11, 14, 25, 14, 39);
-    print_two(b"between the parts", 10, 14, 29, 14, 43);
-    print_two(b"behind the last part", 10, 14, 24, 14, 39);
-    print_two(b"before, between and behind", 13, 14, 32, 14, 131070);
+fn print_slack(rt: &impl Print) -> io::Result<()> {
+    println!(rt; "slack")?;
+    print_two(rt, b"none", 10, 14, 24, 14, 38)?;
+    print_two(rt, b"before the first part", 11, 14, 25, 14, 39)?;
+    print_two(rt, b"between the parts", 10, 14, 29, 14, 43)?;
+    print_two(rt, b"behind the last part", 10, 14, 24, 14, 39)?;
+    print_two(rt, b"before, between and behind", 13, 14, 32, 14, 131070)
 }
 
 // Where that is broken, and parts of length 0.
-fn print_breaches() {
-    print_two(b"the first part in the table", 9, 14, 24, 14, 38);
-    print_two(b"the second part in the first", 10, 14, 23, 14, 38);
-    print_two(b"the second part before the first", 24, 14, 10, 14, 38);
-    print_two(b"the first part past the end", 10, 200, 24, 14, 38);
-    print_two(b"the last part past the end", 10, 14, 25, 14, 38);
-    print_two(b"two parts at one offset", 10, 0, 10, 14, 24);
-    print_two(b"the second part of no byte", 10, 14, 24, 0, 24);
-    print_two(b"the second part behind the end", 10, 14, 25, 0, 24);
+fn print_breaches(rt: &impl Print) -> io::Result<()> {
+    print_two(rt, b"the first part in the table", 9, 14, 24, 14, 38)?;
+    print_two(rt, b"the second part in the first", 10, 14, 23, 14, 38)?;
+    print_two(rt, b"the second part before the first", 24, 14, 10, 14, 38)?;
+    print_two(rt, b"the first part past the end", 10, 200, 24, 14, 38)?;
+    print_two(rt, b"the last part past the end", 10, 14, 25, 14, 38)?;
+    print_two(rt, b"two parts at one offset", 10, 0, 10, 14, 24)?;
+    print_two(rt, b"the second part of no byte", 10, 14, 24, 0, 24)?;
+    print_two(rt, b"the second part behind the end", 10, 14, 25, 0, 24)
 }
 
 // The same about and after 65,536 bytes: where the second part ends in the file, and a first one whose end has 17 bits.
-fn print_long() {
-    print_two(b"ends at 65536 of 65549", 10, 14, 65522, 14, 65549);
-    print_two(b"ends at 65549 of 65549", 10, 14, 65535, 14, 65549);
-    print_two(b"ends at 65549 of 65548", 10, 14, 65535, 14, 65548);
-    print_two(b"ends at 131070 of 131070", 10, 14, 65535, 65535, 131070);
-    print_two(b"ends at 131070 of 131069", 10, 14, 65535, 65535, 131069);
-    print_two(b"ends at 66000, next at 464", 65000, 1000, 464, 14, 66000);
+fn print_long(rt: &impl Print) -> io::Result<()> {
+    print_two(rt, b"ends at 65536 of 65549", 10, 14, 65522, 14, 65549)?;
+    print_two(rt, b"ends at 65549 of 65549", 10, 14, 65535, 14, 65549)?;
+    print_two(rt, b"ends at 65549 of 65548", 10, 14, 65535, 14, 65548)?;
+    print_two(
+        rt,
+        b"ends at 131070 of 131070",
+        10,
+        14,
+        65535,
+        65535,
+        131070,
+    )?;
+    print_two(
+        rt,
+        b"ends at 131070 of 131069",
+        10,
+        14,
+        65535,
+        65535,
+        131069,
+    )?;
+    print_two(
+        rt,
+        b"ends at 66000, next at 464",
+        65000,
+        1000,
+        464,
+        14,
+        66000,
+    )
 }
 
 // Every record of the file with slack, the one after the last, and the file cut off behind and in its last part.
-fn print_slack_records() {
+fn print_slack_records(rt: &impl Print) -> io::Result<()> {
     let file = SLACK;
-    print_record(&file, 0);
-    print_record(&file, 1);
-    print_record(&file, 2);
-    print_record(&file, 3);
-    print_limit(b"72 bytes of it", &file, 72);
-    print_limit(b"68 bytes of it", &file, 68);
-    print_limit(b"67 bytes of it", &file, 67);
+    print_record(rt, &file, 0)?;
+    print_record(rt, &file, 1)?;
+    print_record(rt, &file, 2)?;
+    print_record(rt, &file, 3)?;
+    print_limit(rt, b"72 bytes of it", &file, 72)?;
+    print_limit(rt, b"68 bytes of it", &file, 68)?;
+    print_limit(rt, b"67 bytes of it", &file, 67)
 }
 
-fn main() {
-    io::write_all(STDOUT_FILENO, b"prefixes, parsed\n");
-    print_counts(count_prefixes(true, 0));
-    io::write_all(STDOUT_FILENO, b"prefixes, record 6 read\n");
-    print_counts(count_prefixes(false, 6));
-    io::write_all(STDOUT_FILENO, b"prefixes, record 7 read\n");
-    print_counts(count_prefixes(false, 7));
-    io::write_all(STDOUT_FILENO, b"changes of one byte, parsed\n");
-    print_counts(count_changes(true));
-    io::write_all(STDOUT_FILENO, b"changes of one byte, record 6 read\n");
-    print_counts(count_changes(false));
-    print_limits();
-    print_lists();
-    print_records();
-    print_slack();
-    print_breaches();
-    print_long();
-    print_slack_records();
+fn main(rt: HostRuntime) -> io::Result<()> {
+    println!(rt; "prefixes, parsed")?;
+    print_counts(&rt, count_prefixes(true, 0))?;
+    println!(rt; "prefixes, record 6 read")?;
+    print_counts(&rt, count_prefixes(false, 6))?;
+    println!(rt; "prefixes, record 7 read")?;
+    print_counts(&rt, count_prefixes(false, 7))?;
+    println!(rt; "changes of one byte, parsed")?;
+    print_counts(&rt, count_changes(true))?;
+    println!(rt; "changes of one byte, record 6 read")?;
+    print_counts(&rt, count_changes(false))?;
+    print_limits(&rt)?;
+    print_lists(&rt)?;
+    print_records(&rt)?;
+    print_slack(&rt)?;
+    print_breaches(&rt)?;
+    print_long(&rt)?;
+    print_slack_records(&rt)
 }

@@ -4,31 +4,30 @@
 #![tactic(auto)]
 
 use file::Refusal;
-use libc::STDOUT_FILENO;
+use std::io;
 use writing::Written;
 
-fn print(text: &[u8]) {
-    io::write_all(STDOUT_FILENO, text);
+fn print(rt: &impl Print, text: &[u8]) -> io::Result<()> {
+    rt.write_all(text)
 }
 
-fn print_number(n: usize) {
-    print(b" ");
-    io::print_decimal(STDOUT_FILENO, n as u64);
+fn print_number(rt: &impl Print, n: usize) -> io::Result<()> {
+    print!(rt; " {n}")
 }
 
-fn print_byte(b: u8) {
-    print_number(b as usize);
+fn print_byte(rt: &impl Print, b: u8) -> io::Result<()> {
+    print_number(rt, b as usize)
 }
 
 // The bytes, and the end of the line.
-fn print_bytes(bytes: &[u8]) {
-    print(b" |");
+fn print_bytes(rt: &impl Print, bytes: &[u8]) -> io::Result<()> {
+    print(rt, b" |")?;
     let mut i: usize = 0;
     while i < bytes.len() {
-        print_byte(bytes[i]);
+        print_byte(rt, bytes[i])?;
         i += 1;
     }
-    print(b"\n");
+    print(rt, b"\n")
 }
 
 // A buffer before a call.
@@ -60,107 +59,108 @@ fn some_ends() -> [bool; 512] {
 }
 
 // A file of n gates: the answer.
-fn probe_gates(n: usize, buffer: &mut [u8]) {
-    print(b"gates");
-    print_number(n);
-    print(b" buffer");
-    print_number(buffer.len());
-    print(b":");
+fn probe_gates(rt: &impl Print, n: usize, buffer: &mut [u8]) -> io::Result<()> {
+    print(rt, b"gates")?;
+    print_number(rt, n)?;
+    print(rt, b" buffer")?;
+    print_number(rt, buffer.len())?;
+    print(rt, b":")?;
     fill(&mut *buffer);
     let ends = some_ends();
     let masks = some_masks();
     let answer = writing::write_gates(n, &ends, &masks, &mut *buffer);
     match answer {
-        Written::Bytes(k) => print_number(k),
-        Written::Refused(r) => print_refusal(r),
+        Written::Bytes(k) => print_number(rt, k)?,
+        Written::Refused(r) => print_refusal(rt, r)?,
     }
+    Ok(())
 }
 
-fn print_refusal(r: Refusal) {
-    print(b" refused");
-    print_byte(file::refusal_number(r));
+fn print_refusal(rt: &impl Print, r: Refusal) -> io::Result<()> {
+    print(rt, b" refused")?;
+    print_byte(rt, file::refusal_number(r))
 }
 
 // The answer and the whole buffer.
-fn probe_small(n: usize, buffer: &mut [u8]) {
-    probe_gates(n, &mut *buffer);
-    print_bytes(&*buffer);
+fn probe_small(rt: &impl Print, n: usize, buffer: &mut [u8]) -> io::Result<()> {
+    probe_gates(rt, n, &mut *buffer)?;
+    print_bytes(rt, &*buffer)
 }
 
-fn print_position(title: &[u8], at: usize) {
-    print(title);
-    print(b" at");
-    print_number(at);
-    print(b":");
+fn print_position(rt: &impl Print, title: &[u8], at: usize) -> io::Result<()> {
+    print(rt, title)?;
+    print(rt, b" at")?;
+    print_number(rt, at)?;
+    print(rt, b":")
 }
 
 // A number of two bytes in a buffer of five.
-fn probe_number(at: usize) {
+fn probe_number(rt: &impl Print, at: usize) -> io::Result<()> {
     let mut buffer = [170u8; 5];
     writing::put_u16(&mut buffer, at, 513);
-    print_position(b"number", at);
-    print_bytes(&buffer);
+    print_position(rt, b"number", at)?;
+    print_bytes(rt, &buffer)
 }
 
 // A part in a buffer of five.
-fn probe_part(at: usize, part: &[u8]) {
+fn probe_part(rt: &impl Print, at: usize, part: &[u8]) -> io::Result<()> {
     let mut buffer = [170u8; 5];
     writing::put_part(&mut buffer, at, part);
-    print_position(b"part", at);
-    print_bytes(&buffer);
+    print_position(rt, b"part", at)?;
+    print_bytes(rt, &buffer)
 }
 
 // A gate at the front in a buffer of sixteen.
-fn probe_gate(at: usize) {
+fn probe_gate(rt: &impl Print, at: usize) -> io::Result<()> {
     let mut buffer = [170u8; 16];
     writing::put_gate(&mut buffer, at, true, 9241421688590303745);
-    print_position(b"gate", at);
-    print_bytes(&buffer);
+    print_position(rt, b"gate", at)?;
+    print_bytes(rt, &buffer)
 }
 
-fn probe_fields() {
-    probe_number(0);
-    probe_number(3);
-    probe_number(4);
-    probe_number(18446744073709551615);
+fn probe_fields(rt: &impl Print) -> io::Result<()> {
+    probe_number(rt, 0)?;
+    probe_number(rt, 3)?;
+    probe_number(rt, 4)?;
+    probe_number(rt, 18446744073709551615)?;
     let part = [1u8, 2, 3];
-    probe_part(0, &part);
-    probe_part(2, &part);
-    probe_part(3, &part);
-    probe_part(18446744073709551614, &part);
+    probe_part(rt, 0, &part)?;
+    probe_part(rt, 2, &part)?;
+    probe_part(rt, 3, &part)?;
+    probe_part(rt, 18446744073709551614, &part)?;
     let six = [1u8, 2, 3, 4, 5, 6];
-    probe_part(0, &six);
+    probe_part(rt, 0, &six)?;
     let none = [0u8; 0];
-    probe_part(5, &none);
-    probe_part(6, &none);
-    probe_gate(0);
-    probe_gate(2);
-    probe_gate(3);
+    probe_part(rt, 5, &none)?;
+    probe_part(rt, 6, &none)?;
+    probe_gate(rt, 0)?;
+    probe_gate(rt, 2)?;
+    probe_gate(rt, 3)?;
     let record = writing::gate_record(false, 9223372036854775808);
-    print(b"gate_record:");
-    print_bytes(&record);
+    print(rt, b"gate_record:")?;
+    print_bytes(rt, &record)
 }
 
-fn main() {
+fn main(rt: HostRuntime) -> io::Result<()> {
     let mut two = [0u8; 2];
-    probe_small(0, &mut two);
+    probe_small(&rt, 0, &mut two)?;
     let mut one = [0u8; 1];
-    probe_small(0, &mut one);
+    probe_small(&rt, 0, &mut one)?;
     let mut spare = [0u8; 24];
-    probe_small(1, &mut spare);
+    probe_small(&rt, 1, &mut spare)?;
     let mut enough = [0u8; 56];
-    probe_small(3, &mut enough);
+    probe_small(&rt, 3, &mut enough)?;
     let mut less = [0u8; 55];
-    probe_small(3, &mut less);
+    probe_small(&rt, 3, &mut less)?;
     let mut most = [0u8; 9218];
-    probe_gates(512, &mut most);
-    print_bytes(&most[2042..2064]);
-    print_bytes(&most[9190..9218]);
+    probe_gates(&rt, 512, &mut most)?;
+    print_bytes(&rt, &most[2042..2064])?;
+    print_bytes(&rt, &most[9190..9218])?;
     let mut short = [0u8; 9217];
-    probe_gates(512, &mut short);
-    print_bytes(&short[9190..9217]);
+    probe_gates(&rt, 512, &mut short)?;
+    print_bytes(&rt, &short[9190..9217])?;
     let mut large = [0u8; 9236];
-    probe_gates(513, &mut large);
-    print_bytes(&large[0..10]);
-    probe_fields();
+    probe_gates(&rt, 513, &mut large)?;
+    print_bytes(&rt, &large[0..10])?;
+    probe_fields(&rt)
 }
