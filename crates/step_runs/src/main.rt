@@ -8,43 +8,43 @@
 use accessors::{Got, Operation};
 use file::{Outcome, Refusal, RefusalValue, RegisterKey};
 use graph::{CircuitDag, NodeIndex, Qubit};
-use libc::{STDIN_FILENO, STDOUT_FILENO};
+use std::io::{self, Read};
 use walk::{NextBlock, ParallelBlocks};
 
-fn print(text: &[u8]) {
-    io::write_all(STDOUT_FILENO, text);
+fn print(rt: &impl Print, text: &[u8]) -> io::Result<()> {
+    rt.write_all(text)
 }
 
-fn print_number(n: usize) {
-    print(b" ");
-    io::print_decimal(STDOUT_FILENO, n as u64);
+fn print_number(rt: &impl Print, n: usize) -> io::Result<()> {
+    print!(rt; " {n}")
 }
 
-fn print_refusal(r: Refusal) {
-    print(b" refused");
-    print_number(file::refusal_number(r) as usize);
+fn print_refusal(rt: &impl Print, r: Refusal) -> io::Result<()> {
+    print(rt, b" refused")?;
+    print_number(rt, file::refusal_number(r) as usize)?;
     let value = file::refusal_value(r);
     match value {
         RefusalValue::Nothing => {}
         RefusalValue::At(i) => {
-            print(b" at");
-            print_number(i);
+            print(rt, b" at")?;
+            print_number(rt, i)?;
         }
     }
+    Ok(())
 }
 
 // The first nine entries of a buffer, as many as the longest list has, and the end of the line.
-fn print_buffer(buffer: &[u16]) {
-    print(b" |");
+fn print_buffer(rt: &impl Print, buffer: &[u16]) -> io::Result<()> {
+    print(rt, b" |")?;
     let mut i: usize = 0;
     while i < 9 {
         if buffer.len() <= i {
             break;
         }
-        print_number(file::to_index(buffer[i]));
+        print_number(rt, file::to_index(buffer[i]))?;
         i += 1;
     }
-    print(b"\n");
+    print(rt, b"\n")
 }
 
 // A buffer before a call.
@@ -58,80 +58,87 @@ fn fill(buffer: &mut [u16]) {
 }
 
 // A place, with its sign.
-fn print_place(place: i16) {
+fn print_place(rt: &impl Print, place: i16) -> io::Result<()> {
     if place < 0 {
-        print(b" -");
+        print(rt, b" -")?;
         let k = (!place) as usize;
         if k < 512 {
-            io::print_decimal(STDOUT_FILENO, (k + 1) as u64);
+            print!(rt; "{}", k + 1)?;
         }
-        return;
+        return Ok(());
     }
-    print_number(place as usize);
+    print_number(rt, place as usize)
 }
 
 // What a node keeps.
-fn probe_get(g: CircuitDag, v: u16) {
-    print(b"get");
-    print_number(file::to_index(v));
-    print(b":");
+fn probe_get(rt: &impl Print, g: CircuitDag, v: u16) -> io::Result<()> {
+    print(rt, b"get")?;
+    print_number(rt, file::to_index(v))?;
+    print(rt, b":")?;
     let got = accessors::get(g, NodeIndex(v));
     match got {
         Got::Node(n) => {
-            print_number(n.kind as usize);
-            print_number(n.form as usize);
-            print_number(file::to_index(n.label));
-            print_place(n.place);
+            print_number(rt, n.kind as usize)?;
+            print_number(rt, n.form as usize)?;
+            print_number(rt, file::to_index(n.label))?;
+            print_place(rt, n.place)?;
         }
-        Got::Refused(r) => print_refusal(r),
+        Got::Refused(r) => print_refusal(rt, r)?,
     }
-    print(b"\n");
+    print(rt, b"\n")
 }
 
-fn print_operation(x: Operation) {
+fn print_operation(rt: &impl Print, x: Operation) -> io::Result<()> {
     match x {
-        Operation::Node(v) => print_number(file::to_index(v.0)),
-        Operation::None => print(b" none"),
-        Operation::Refused(r) => print_refusal(r),
+        Operation::Node(v) => print_number(rt, file::to_index(v.0))?,
+        Operation::None => print(rt, b" none")?,
+        Operation::Refused(r) => print_refusal(rt, r)?,
     }
+    Ok(())
 }
 
 // The first and last operation that involve a qubit.
-fn probe_qubit(g: CircuitDag, q: u8) {
-    print(b"qubit");
-    print_number(q as usize);
-    print(b":");
-    print_operation(accessors::first_operation_involving_qubit(g, Qubit(q)));
-    print_operation(accessors::last_operation_involving_qubit(g, Qubit(q)));
-    print(b"\n");
+fn probe_qubit(rt: &impl Print, g: CircuitDag, q: u8) -> io::Result<()> {
+    print(rt, b"qubit")?;
+    print_number(rt, q as usize)?;
+    print(rt, b":")?;
+    print_operation(rt, accessors::first_operation_involving_qubit(g, Qubit(q)))?;
+    print_operation(rt, accessors::last_operation_involving_qubit(g, Qubit(q)))?;
+    print(rt, b"\n")
 }
 
 // The first and last operation that involve a register key.
-fn probe_key(g: CircuitDag, name: u8, index: u16) {
-    print(b"key");
-    print_number(name as usize);
-    print_number(file::to_index(index));
-    print(b":");
-    print_operation(accessors::first_operation_involving_classical(g, RegisterKey { name, index }));
-    print_operation(accessors::last_operation_involving_classical(g, RegisterKey { name, index }));
-    print(b"\n");
+fn probe_key(rt: &impl Print, g: CircuitDag, name: u8, index: u16) -> io::Result<()> {
+    print(rt, b"key")?;
+    print_number(rt, name as usize)?;
+    print_number(rt, file::to_index(index))?;
+    print(rt, b":")?;
+    print_operation(
+        rt,
+        accessors::first_operation_involving_classical(g, RegisterKey { name, index }),
+    )?;
+    print_operation(
+        rt,
+        accessors::last_operation_involving_classical(g, RegisterKey { name, index }),
+    )?;
+    print(rt, b"\n")
 }
 
 // What a graph holds at single places.
-fn probe_entries(g: CircuitDag, v: usize) {
-    probe_get(g, 0);
-    probe_get(g, 2);
-    probe_get(g, (v % 65536) as u16);
-    probe_get(g, 65535);
-    probe_qubit(g, 0);
-    probe_qubit(g, 3);
-    probe_qubit(g, 63);
-    probe_qubit(g, 64);
-    probe_qubit(g, 255);
-    probe_key(g, 1, 0);
-    probe_key(g, 1, 1);
-    probe_key(g, 2, 0);
-    probe_key(g, 255, 65535);
+fn probe_entries(rt: &impl Print, g: CircuitDag, v: usize) -> io::Result<()> {
+    probe_get(rt, g, 0)?;
+    probe_get(rt, g, 2)?;
+    probe_get(rt, g, (v % 65536) as u16)?;
+    probe_get(rt, g, 65535)?;
+    probe_qubit(rt, g, 0)?;
+    probe_qubit(rt, g, 3)?;
+    probe_qubit(rt, g, 63)?;
+    probe_qubit(rt, g, 64)?;
+    probe_qubit(rt, g, 255)?;
+    probe_key(rt, g, 1, 0)?;
+    probe_key(rt, g, 1, 1)?;
+    probe_key(rt, g, 2, 0)?;
+    probe_key(rt, g, 255, 65535)
 }
 
 // How many nodes a set has.
@@ -148,87 +155,99 @@ fn count_marks(marks: [bool; 512]) -> usize {
 }
 
 // A step: its answer, the sizes of its two sets afterwards, and the buffer.
-fn probe_step(g: CircuitDag, state: ParallelBlocks, buffer: &mut [u16]) -> ParallelBlocks {
+fn probe_step(
+    rt: &impl Print,
+    g: CircuitDag,
+    state: ParallelBlocks,
+    buffer: &mut [u16],
+) -> io::Result<ParallelBlocks> {
     fill(&mut *buffer);
     let x = state.next(g, &mut *buffer);
-    print(b"next buffer");
-    print_number(buffer.len());
-    print(b":");
+    print(rt, b"next buffer")?;
+    print_number(rt, buffer.len())?;
+    print(rt, b":")?;
     let answer = x.answer;
     match answer {
-        NextBlock::Block(k) => print_number(k),
-        NextBlock::None => print(b" none"),
-        NextBlock::Refused(r) => print_refusal(r),
+        NextBlock::Block(k) => print_number(rt, k)?,
+        NextBlock::None => print(rt, b" none")?,
+        NextBlock::Refused(r) => print_refusal(rt, r)?,
     }
     let walk = x.walk;
     let current = walk.current;
     let executed = walk.executed;
-    print_number(count_marks(current));
-    print_number(count_marks(executed));
-    print_buffer(&*buffer);
-    walk
+    print_number(rt, count_marks(current))?;
+    print_number(rt, count_marks(executed))?;
+    print_buffer(rt, &*buffer)?;
+    Ok(walk)
 }
 
 // A step with no buffer, and one with this buffer from where the first left the walk.
-fn probe_steps(g: CircuitDag, state: ParallelBlocks, buffer: &mut [u16]) -> ParallelBlocks {
+fn probe_steps(
+    rt: &impl Print,
+    g: CircuitDag,
+    state: ParallelBlocks,
+    buffer: &mut [u16],
+) -> io::Result<ParallelBlocks> {
     let mut none = [0u16; 0];
-    let after = probe_step(g, state, &mut none);
-    probe_step(g, after, buffer)
+    let after = probe_step(rt, g, state, &mut none)?;
+    probe_step(rt, g, after, buffer)
 }
 
 // The walk's first five steps.
-fn probe_walk(g: CircuitDag, buffer: &mut [u16]) {
-    let a = probe_steps(g, ParallelBlocks::new(), &mut *buffer);
-    let b = probe_steps(g, a, &mut *buffer);
-    let c = probe_steps(g, b, &mut *buffer);
-    let d = probe_steps(g, c, &mut *buffer);
-    probe_steps(g, d, &mut *buffer);
+fn probe_walk(rt: &impl Print, g: CircuitDag, buffer: &mut [u16]) -> io::Result<()> {
+    let a = probe_steps(rt, g, ParallelBlocks::new(), &mut *buffer)?;
+    let b = probe_steps(rt, g, a, &mut *buffer)?;
+    let c = probe_steps(rt, g, b, &mut *buffer)?;
+    let d = probe_steps(rt, g, c, &mut *buffer)?;
+    probe_steps(rt, g, d, &mut *buffer)?;
+    Ok(())
 }
 
 // A step from a state whose current set has node v alone, which may be absent.
-fn probe_current(g: CircuitDag, v: usize, buffer: &mut [u16]) {
+fn probe_current(rt: &impl Print, g: CircuitDag, v: usize, buffer: &mut [u16]) -> io::Result<()> {
     if v < 512 {
         let mut current = graph::no_marks();
         current[v] = true;
         let executed = graph::no_marks();
         let state = ParallelBlocks { current, executed };
-        probe_step(g, state, buffer);
+        probe_step(rt, g, state, buffer)?;
     }
+    Ok(())
 }
 
 // The walk and the entries of one graph; v is the number after the last node.
-fn probe(g: CircuitDag, v: usize) {
+fn probe(rt: &impl Print, g: CircuitDag, v: usize) -> io::Result<()> {
     let mut long = [0u16; 512];
-    probe_walk(g, &mut long);
-    probe_current(g, 0, &mut long);
-    probe_current(g, v, &mut long);
-    probe_entries(g, v);
+    probe_walk(rt, g, &mut long)?;
+    probe_current(rt, g, 0, &mut long)?;
+    probe_current(rt, g, v, &mut long)?;
+    probe_entries(rt, g, v)
 }
 
 // The graph of a circuit file, the empty one where it is refused, then the same with one back insertion too many, which is
 // not sound.
-fn probe_load(bytes: &[u8]) {
+fn probe_load(rt: &impl Print, bytes: &[u8]) -> io::Result<()> {
     let loaded = insertion::load(bytes);
     let answer = loaded.answer;
     let g = loaded.graph;
     if let Outcome::Refused(r) = answer {
-        print(b"load");
-        print_refusal(r);
-        print(b"\n");
+        print(rt, b"load")?;
+        print_refusal(rt, r)?;
+        print(rt, b"\n")?;
     }
-    probe(g, g.nodes.count);
+    probe(rt, g, g.nodes.count)?;
     let mut unsound = g;
     unsound.backs = if g.backs < 512 { g.backs + 1 } else { 0 };
-    print(b"not sound\n");
-    probe(unsound, 0);
+    print(rt, b"not sound\n")?;
+    probe(rt, unsound, 0)
 }
 
 // A circuit file: its graph.
-fn probe_file(bytes: &[u8]) {
-    print(b"file of");
-    print_number(bytes.len());
-    print(b" bytes\n");
-    probe_load(bytes);
+fn probe_file(rt: &impl Print, bytes: &[u8]) -> io::Result<()> {
+    print(rt, b"file of")?;
+    print_number(rt, bytes.len())?;
+    print(rt, b" bytes\n")?;
+    probe_load(rt, bytes)
 }
 
 // The number in two bytes.
@@ -236,17 +255,19 @@ fn pair(low: u8, high: u8) -> usize {
     low as usize + 256 * (high as usize)
 }
 
-fn main() {
-    let mut input = io::large_buffer();
-    let n = io::read_full(STDIN_FILENO, &mut input);
+fn main(rt: HostRuntime) -> io::Result<()> {
+    let mut input = Vec::new(rt.alloc());
+    rt.reader().take(65536).read_to_end(&mut input)?;
+    let n = input.len();
     let mut at: usize = 0;
     while at + 2 <= n {
         let start = at + 2;
         let size = pair(input[at], input[at + 1]);
         if n - start < size {
-            return;
+            return Ok(());
         }
-        probe_file(&input[start..start + size]);
+        probe_file(&rt, &input[start..start + size])?;
         at = start + size;
     }
+    Ok(())
 }
