@@ -7,7 +7,7 @@ ghost use Rattle.std.specs.Prelude.{◌≤◌, ◌<◌};
 use file::{Outcome, Refusal, RefusalValue};
 use graph::CircuitDag;
 use insertion::Answer;
-use libc::STDOUT_FILENO;
+use std::io;
 
 // Gate k's mask. Plain: qubit 0. In layers of 8: row k of an 8 x 8 grid of qubits in one layer, column k in the next, so
 // that a gate has one qubit from every gate of the layer before.
@@ -42,94 +42,108 @@ fn gates(n: usize, front: bool, layers: bool) -> [u8; 9218] {
     file
 }
 
-fn print(text: &[u8]) {
-    io::write_all(STDOUT_FILENO, text);
+fn print(rt: &impl Print, text: &[u8]) -> io::Result<()> {
+    rt.write_all(text)
 }
 
-fn print_number(n: usize) {
-    io::print_decimal(STDOUT_FILENO, n as u64);
+fn print_number(rt: &impl Print, n: usize) -> io::Result<()> {
+    print!(rt; "{n}")
 }
 
 // A place, with its sign.
-fn print_place(place: i16) {
+fn print_place(rt: &impl Print, place: i16) -> io::Result<()> {
     if place < 0 {
-        print(b"-");
+        print(rt, b"-")?;
         let k = (!place) as usize;
         if k < 512 {
-            print_number(k + 1);
+            print_number(rt, k + 1)?;
         }
-        return;
+        return Ok(());
     }
-    print_number(place as usize);
+    print_number(rt, place as usize)
 }
 
-fn print_refusal(r: Refusal) {
-    print(b"refused ");
-    print_number(file::refusal_number(r) as usize);
+fn print_refusal(rt: &impl Print, r: Refusal) -> io::Result<()> {
+    print(rt, b"refused ")?;
+    print_number(rt, file::refusal_number(r) as usize)?;
     let value = file::refusal_value(r);
     match value {
         RefusalValue::Nothing => {}
         RefusalValue::At(i) => {
-            print(b" at ");
-            print_number(i);
+            print(rt, b" at ")?;
+            print_number(rt, i)?;
         }
     }
-    print(b"\n");
+    print(rt, b"\n")
 }
 
 // What one more record gives.
-fn print_insertion(title: &[u8], dag: CircuitDag, record: &[u8]) {
-    print(title);
+fn print_insertion(
+    rt: &impl Print,
+    title: &[u8],
+    dag: CircuitDag,
+    record: &[u8],
+) -> io::Result<()> {
+    print(rt, title)?;
     let inserted = insertion::insert(dag, record);
     let answer = inserted.answer;
     match answer {
         Answer::Node(v) => {
-            print(b"node ");
-            print_number(v.0 as usize);
-            print(b"\n");
+            print(rt, b"node ")?;
+            print_number(rt, v.0 as usize)?;
+            print(rt, b"\n")?;
         }
-        Answer::Refused(r) => print_refusal(r),
+        Answer::Refused(r) => print_refusal(rt, r)?,
     }
+    Ok(())
 }
 
 // The counts of a loaded graph, and the place of a node.
-fn print_graph(title: &[u8], dag: CircuitDag, v: usize)
+fn print_graph(rt: &impl Print, title: &[u8], dag: CircuitDag, v: usize) -> io::Result<()>
     requires { v < 512 }
 {
-    print(title);
-    print_number(dag.nodes.count);
-    print(b" nodes, ");
-    print_number(dag.edges.count);
-    print(b" edges, ");
-    print_number(dag.last_registers.count);
-    print(b" entries, node ");
-    print_number(v);
-    print(b" at place ");
+    print(rt, title)?;
+    print_number(rt, dag.nodes.count)?;
+    print(rt, b" nodes, ")?;
+    print_number(rt, dag.edges.count)?;
+    print(rt, b" edges, ")?;
+    print_number(rt, dag.last_registers.count)?;
+    print(rt, b" entries, node ")?;
+    print_number(rt, v)?;
+    print(rt, b" at place ")?;
     let places = dag.nodes.place;
-    print_place(places[v]);
-    print(b"\n");
+    print_place(rt, places[v])?;
+    print(rt, b"\n")
 }
 
 // The outcome of the file in the first n bytes, and what one more record on its graph gives.
-fn print_load(title: &[u8], bytes: &[u8], n: usize, v: usize, record: &[u8])
+fn print_load(
+    rt: &impl Print,
+    title: &[u8],
+    bytes: &[u8],
+    n: usize,
+    v: usize,
+    record: &[u8],
+) -> io::Result<()>
     requires { v < 512 }
 {
     let start: usize = 0;
     if bytes.len() < n {
-        return;
+        return Ok(());
     }
     let loaded = insertion::load(&bytes[start..n]);
     let answer = loaded.answer;
     match answer {
         Outcome::Done => {
-            print_graph(title, loaded.graph, v);
-            print_insertion(b"  one more: ", loaded.graph, record);
+            print_graph(rt, title, loaded.graph, v)?;
+            print_insertion(rt, b"  one more: ", loaded.graph, record)?;
         }
         Outcome::Refused(r) => {
-            print(title);
-            print_refusal(r);
+            print(rt, title)?;
+            print_refusal(rt, r)?;
         }
     }
+    Ok(())
 }
 
 // A file of one definition of name 1.
@@ -171,61 +185,69 @@ fn measured(length: u16, first: usize, c: usize) -> [u8; 117]
 }
 
 // The outcome of such a file, and what one more record on its graph gives.
-fn print_list(title: &[u8], length: u16, first: usize, c: usize, record: &[u8])
+fn print_list(
+    rt: &impl Print,
+    title: &[u8],
+    length: u16,
+    first: usize,
+    c: usize,
+    record: &[u8],
+) -> io::Result<()>
     requires { (first ≤ 256) × (c ≤ 25) }
 {
     let file = measured(length, first, c);
-    print_load(title, &file, 42 + 3 * c, 1, record);
+    print_load(rt, title, &file, 42 + 3 * c, 1, record)
 }
 
 // A definition alone, and what the list of 24 keys of such a file gives in a single call on its graph.
-fn print_single(title: &[u8], length: u16, file: &[u8]) {
+fn print_single(rt: &impl Print, title: &[u8], length: u16, file: &[u8]) -> io::Result<()> {
     if file.len() < 114 {
-        return;
+        return Ok(());
     }
     let defined = definition(length);
-    print_load(title, &defined, 23, 0, &file[27..114]);
+    print_load(rt, title, &defined, 23, 0, &file[27..114])
 }
 
 // Lists of 24 and 25 keys at maps of 232, 233 and 256 entries: 7 goes by the keys that are new, and 4 comes before it. `entry` is another name's key.
-fn print_lists(entry: &[u8]) {
-    print_list(b"232 entries, 24 keys: ", 232, 232, 24, entry);
-    print_list(b"233 entries, 24 keys: ", 233, 233, 24, entry);
-    print_list(b"233 entries, 24 keys, 23 new: ", 233, 232, 24, entry);
-    print_list(b"256 entries, 24 keys, none new: ", 256, 232, 24, entry);
-    print_list(b"233 entries, 25 keys: ", 233, 233, 25, entry);
+fn print_lists(rt: &impl Print, entry: &[u8]) -> io::Result<()> {
+    print_list(rt, b"232 entries, 24 keys: ", 232, 232, 24, entry)?;
+    print_list(rt, b"233 entries, 24 keys: ", 233, 233, 24, entry)?;
+    print_list(rt, b"233 entries, 24 keys, 23 new: ", 233, 232, 24, entry)?;
+    print_list(rt, b"256 entries, 24 keys, none new: ", 256, 232, 24, entry)?;
+    print_list(rt, b"233 entries, 25 keys: ", 233, 233, 25, entry)?;
     let fits = measured(232, 232, 24);
-    print_single(b"a definition of 232, then 24 keys: ", 232, &fits);
+    print_single(rt, b"a definition of 232, then 24 keys: ", 232, &fits)?;
     let over = measured(233, 233, 24);
-    print_single(b"a definition of 233, then 24 keys: ", 233, &over);
+    print_single(rt, b"a definition of 233, then 24 keys: ", 233, &over)
 }
 
 // A gate on no qubit on a full graph: 12 before 5.
-fn print_empty_set() {
+fn print_empty_set(rt: &impl Print) -> io::Result<()> {
     let nothing = writing::gate_record(false, 0);
     let back = gates(512, false, false);
     print_load(
+        rt,
         b"512 at the back, then an empty set: ",
         &back,
         9218,
         511,
         &nothing,
-    );
+    )
 }
 
-fn main() {
+fn main(rt: HostRuntime) -> io::Result<()> {
     let gate = writing::gate_record(false, 1);
     let entry = [0u8, 0, 0, 0, 0, 0, 0, 0, 0, 0, 0, 3, 0, 0, 1, 2, 0, 0];
     let back = gates(512, false, false);
-    print_load(b"512 at the back: ", &back, 9218, 511, &gate);
+    print_load(&rt, b"512 at the back: ", &back, 9218, 511, &gate)?;
     let front = gates(512, true, false);
-    print_load(b"512 at the front: ", &front, 9218, 511, &gate);
+    print_load(&rt, b"512 at the front: ", &front, 9218, 511, &gate)?;
     let layers = gates(264, false, true);
-    print_load(b"33 layers of 8: ", &layers, 4754, 263, &gate);
+    print_load(&rt, b"33 layers of 8: ", &layers, 4754, 263, &gate)?;
     let most = definition(256);
-    print_load(b"a definition of 256: ", &most, 23, 0, &entry);
+    print_load(&rt, b"a definition of 256: ", &most, 23, 0, &entry)?;
     let over = definition(257);
-    print_load(b"a definition of 257: ", &over, 23, 0, &entry);
-    print_lists(&entry);
-    print_empty_set();
+    print_load(&rt, b"a definition of 257: ", &over, 23, 0, &entry)?;
+    print_lists(&rt, &entry)?;
+    print_empty_set(&rt)
 }
