@@ -2,17 +2,15 @@
 // file follows a line with its length.
 #![tactic(auto)]
 
-use libc::{STDIN_FILENO, STDOUT_FILENO};
+use std::io::{self, Read};
 
 // The text for one file, behind a line with its length.
-fn print_file(file: &[u8]) {
-    io::write_all(STDOUT_FILENO, b"file of ");
-    io::print_decimal(STDOUT_FILENO, file.len() as u64);
-    io::write_all(STDOUT_FILENO, b" bytes\n");
+fn print_file(rt: &impl Print, file: &[u8]) -> io::Result<()> {
+    println!(rt; "file of {} bytes", file.len())?;
     let text = report::blocks_text(file);
     let bytes = text.bytes;
     let length = text.length;
-    io::write_all(STDOUT_FILENO, &bytes[..length]);
+    rt.write_all(&bytes[..length])
 }
 
 // The number in two bytes.
@@ -20,17 +18,19 @@ fn pair(low: u8, high: u8) -> usize {
     low as usize + 256 * (high as usize)
 }
 
-fn main() {
-    let mut input = io::large_buffer();
-    let n = io::read_full(STDIN_FILENO, &mut input);
+fn main(rt: HostRuntime) -> io::Result<()> {
+    let mut input = Vec::new(rt.alloc());
+    rt.reader().take(65536).read_to_end(&mut input)?;
+    let n = input.len();
     let mut at: usize = 0;
     while at + 2 <= n {
         let start = at + 2;
         let size = pair(input[at], input[at + 1]);
         if n - start < size {
-            return;
+            return Ok(());
         }
-        print_file(&input[start..start + size]);
+        print_file(&rt, &input[start..start + size])?;
         at = start + size;
     }
+    Ok(())
 }

@@ -7,44 +7,44 @@
 use file::{FileCheck, Outcome, Refusal, RefusalValue};
 use graph::{CircuitDag, NodeIndex};
 use insertion::{Answer, LoadingRule};
-use libc::{STDIN_FILENO, STDOUT_FILENO};
 use queries::Query;
+use std::io::{self, Read};
 use walk::BlockCount;
 
-fn print(text: &[u8]) {
-    io::write_all(STDOUT_FILENO, text);
+fn print(rt: &impl Print, text: &[u8]) -> io::Result<()> {
+    rt.write_all(text)
 }
 
-fn print_number(n: usize) {
-    print(b" ");
-    io::print_decimal(STDOUT_FILENO, n as u64);
+fn print_number(rt: &impl Print, n: usize) -> io::Result<()> {
+    print!(rt; " {n}")
 }
 
-fn print_refusal(r: Refusal) {
-    print(b" refused");
-    print_number(file::refusal_number(r) as usize);
+fn print_refusal(rt: &impl Print, r: Refusal) -> io::Result<()> {
+    print(rt, b" refused")?;
+    print_number(rt, file::refusal_number(r) as usize)?;
     let value = file::refusal_value(r);
     match value {
         RefusalValue::Nothing => {}
         RefusalValue::At(i) => {
-            print(b" at");
-            print_number(i);
+            print(rt, b" at")?;
+            print_number(rt, i)?;
         }
     }
+    Ok(())
 }
 
 // The first nine entries, and the end of the line.
-fn print_entries(entries: &[u16]) {
-    print(b" |");
+fn print_entries(rt: &impl Print, entries: &[u16]) -> io::Result<()> {
+    print(rt, b" |")?;
     let mut i: usize = 0;
     while i < 9 {
         if entries.len() <= i {
             break;
         }
-        print_number(file::to_index(entries[i]));
+        print_number(rt, file::to_index(entries[i]))?;
         i += 1;
     }
-    print(b"\n");
+    print(rt, b"\n")
 }
 
 // A buffer before a call.
@@ -57,126 +57,139 @@ fn fill(buffer: &mut [u16]) {
     }
 }
 
-fn print_schedule(file: &[u8], buffer: &mut [u16]) {
+fn print_schedule(rt: &impl Print, file: &[u8], buffer: &mut [u16]) -> io::Result<()> {
     fill(&mut *buffer);
-    print(b"schedule_both_ends");
+    print(rt, b"schedule_both_ends")?;
     let answer = schedule::schedule_both_ends(file, &mut *buffer);
     match answer {
-        BlockCount::Blocks(k) => print_number(k),
-        BlockCount::Refused(r) => print_refusal(r),
+        BlockCount::Blocks(k) => print_number(rt, k)?,
+        BlockCount::Refused(r) => print_refusal(rt, r)?,
     }
-    print_entries(&*buffer);
+    print_entries(rt, &*buffer)
 }
 
-fn print_successors(g: CircuitDag, v: u16) {
+fn print_successors(rt: &impl Print, g: CircuitDag, v: u16) -> io::Result<()> {
     let mut buffer = [9999u16; 9];
     let answer = queries::successors(g, NodeIndex(v), &mut buffer);
-    print(b"successors");
-    print_number(file::to_index(v));
+    print(rt, b"successors")?;
+    print_number(rt, file::to_index(v))?;
     match answer {
-        Query::Entries(k) => print_number(k),
-        Query::Refused(r) => print_refusal(r),
+        Query::Entries(k) => print_number(rt, k)?,
+        Query::Refused(r) => print_refusal(rt, r)?,
     }
-    print_entries(&buffer);
+    print_entries(rt, &buffer)
 }
 
 // An end's all-qubit node, and its nodes of qubits 0 to 8.
-fn print_end(title: &[u8], all: NodeIndex, map: &[u16; 64]) {
-    print(title);
-    print_number(file::to_index(all.0));
-    print_entries(map);
+fn print_end(rt: &impl Print, title: &[u8], all: NodeIndex, map: &[u16; 64]) -> io::Result<()> {
+    print(rt, title)?;
+    print_number(rt, file::to_index(all.0))?;
+    print_entries(rt, map)
 }
 
 // The graph's counts, its two ends, and the successors of nodes 0 to 5.
-fn print_graph(g: CircuitDag) {
-    print(b" nodes");
-    print_number(g.nodes.count);
-    print(b" edges");
-    print_number(g.edges.count);
-    print(b"\n");
+fn print_graph(rt: &impl Print, g: CircuitDag) -> io::Result<()> {
+    print(rt, b" nodes")?;
+    print_number(rt, g.nodes.count)?;
+    print(rt, b" edges")?;
+    print_number(rt, g.edges.count)?;
+    print(rt, b"\n")?;
     let first = g.first.node;
     let last = g.last.node;
-    print_end(b"first", g.first.all, &first);
-    print_end(b"last", g.last.all, &last);
+    print_end(rt, b"first", g.first.all, &first)?;
+    print_end(rt, b"last", g.last.all, &last)?;
     let mut v: u16 = 0;
     while v < 6 {
-        print_successors(g, v);
+        print_successors(rt, g, v)?;
         v += 1;
     }
+    Ok(())
 }
 
-fn print_load(file: &[u8]) {
-    print(b"load_by");
+fn print_load(rt: &impl Print, file: &[u8]) -> io::Result<()> {
+    print(rt, b"load_by")?;
     let x = insertion::load_by(LoadingRule::FarAll, file);
     let answer = x.answer;
     match answer {
-        Outcome::Done => print(b" accepted"),
-        Outcome::Refused(r) => print_refusal(r),
+        Outcome::Done => print(rt, b" accepted")?,
+        Outcome::Refused(r) => print_refusal(rt, r)?,
     }
-    print_graph(x.graph);
+    print_graph(rt, x.graph)
 }
 
 // One insertion, a line if it is refused; the graph that it returns.
-fn insert_one(rule: LoadingRule, g: CircuitDag, part: &[u8]) -> CircuitDag {
+fn insert_one(
+    rt: &impl Print,
+    rule: LoadingRule,
+    g: CircuitDag,
+    part: &[u8],
+) -> io::Result<CircuitDag> {
     let x = insertion::insert_by(rule, g, part);
     let answer = x.answer;
     match answer {
         Answer::Node(v) => {}
         Answer::Refused(r) => {
-            print(b"insert_by");
-            print_refusal(r);
-            print(b"\n");
+            print(rt, b"insert_by")?;
+            print_refusal(rt, r)?;
+            print(rt, b"\n")?;
         }
     }
-    x.graph
+    Ok(x.graph)
 }
 
 // The file's records, one after the other, by these ways by turns; the first again, and on a graph that is not sound.
-fn insert_each(file: &[u8], even: LoadingRule, odd: LoadingRule) {
+fn insert_each(
+    rt: &impl Print,
+    file: &[u8],
+    even: LoadingRule,
+    odd: LoadingRule,
+) -> io::Result<()> {
     let n = file::record_count(file);
     let mut g = CircuitDag::new();
     let mut i: usize = 0;
     while i < n {
         let rule = if i % 2 == 0 { even } else { odd };
-        g = insert_one(rule, g, file::part_of(file, i));
+        g = insert_one(rt, rule, g, file::part_of(file, i))?;
         i += 1;
     }
-    print(b"inserted");
-    print_graph(g);
-    g = insert_one(even, g, file::part_of(file, 0));
+    print(rt, b"inserted")?;
+    print_graph(rt, g)?;
+    g = insert_one(rt, even, g, file::part_of(file, 0))?;
     // A count of insertions that is off: the graph is not sound.
     g.backs = if g.backs < 512 { g.backs + 1 } else { 0 };
-    insert_one(even, g, file::part_of(file, 0));
+    insert_one(rt, even, g, file::part_of(file, 0))?;
+    Ok(())
 }
 
 // The file's blocks, and its schedule.
-fn print_blocks(file: &[u8]) {
+fn print_blocks(rt: &impl Print, file: &[u8]) -> io::Result<()> {
     let text = report::blocks_text_by(LoadingRule::FarAll, file);
     let bytes = text.bytes;
     let length = text.length;
-    io::write_all(STDOUT_FILENO, &bytes[..length]);
+    rt.write_all(&bytes[..length])?;
     let mut none = [0u16; 0];
     let mut one = [0u16; 1];
     let mut many = [0u16; 512];
-    print_schedule(file, &mut none);
-    print_schedule(file, &mut one);
-    print_schedule(file, &mut many);
+    print_schedule(rt, file, &mut none)?;
+    print_schedule(rt, file, &mut one)?;
+    print_schedule(rt, file, &mut many)
 }
 
-fn print_file(file: &[u8]) {
-    print(b"file of");
-    print_number(file.len());
-    print(b" bytes\n");
-    print_blocks(file);
-    print_load(file);
+fn print_file(rt: &impl Print, file: &[u8]) -> io::Result<()> {
+    print(rt, b"file of")?;
+    print_number(rt, file.len())?;
+    print(rt, b" bytes\n")?;
+    print_blocks(rt, file)?;
+    print_load(rt, file)?;
     let found = file::check_file(file);
     match found {
         FileCheck::Refused(r) => {}
         FileCheck::Sound => {
-            insert_each(file, LoadingRule::FarAll, LoadingRule::FarAll);
-            insert_each(file, LoadingRule::FarAll, LoadingRule::NearAll);
+            insert_each(rt, file, LoadingRule::FarAll, LoadingRule::FarAll)?;
+            insert_each(rt, file, LoadingRule::FarAll, LoadingRule::NearAll)?;
         }
     }
+    Ok(())
 }
 
 // The number in two bytes.
@@ -184,17 +197,19 @@ fn pair(low: u8, high: u8) -> usize {
     low as usize + 256 * (high as usize)
 }
 
-fn main() {
-    let mut input = io::large_buffer();
-    let n = io::read_full(STDIN_FILENO, &mut input);
+fn main(rt: HostRuntime) -> io::Result<()> {
+    let mut input = Vec::new(rt.alloc());
+    rt.reader().take(65536).read_to_end(&mut input)?;
+    let n = input.len();
     let mut at: usize = 0;
     while at + 2 <= n {
         let start = at + 2;
         let size = pair(input[at], input[at + 1]);
         if n - start < size {
-            return;
+            return Ok(());
         }
-        print_file(&input[start..start + size]);
+        print_file(&rt, &input[start..start + size])?;
         at = start + size;
     }
+    Ok(())
 }

@@ -6,90 +6,91 @@
 use file::{Outcome, Refusal, RefusalValue};
 use graph::CircuitDag;
 use insertion::{Answer, Loaded};
-use libc::{STDIN_FILENO, STDOUT_FILENO};
+use std::io::{self, Read};
 
-fn print(text: &[u8]) {
-    io::write_all(STDOUT_FILENO, text);
+fn print(rt: &impl Print, text: &[u8]) -> io::Result<()> {
+    rt.write_all(text)
 }
 
-fn print_number(n: usize) {
-    print(b" ");
-    io::print_decimal(STDOUT_FILENO, n as u64);
+fn print_number(rt: &impl Print, n: usize) -> io::Result<()> {
+    print!(rt; " {n}")
 }
 
-fn print_refusal(r: Refusal) {
-    print(b" refused");
-    print_number(file::refusal_number(r) as usize);
+fn print_refusal(rt: &impl Print, r: Refusal) -> io::Result<()> {
+    print(rt, b" refused")?;
+    print_number(rt, file::refusal_number(r) as usize)?;
     let value = file::refusal_value(r);
     match value {
         RefusalValue::Nothing => {}
         RefusalValue::At(i) => {
-            print(b" at");
-            print_number(i);
+            print(rt, b" at")?;
+            print_number(rt, i)?;
         }
     }
+    Ok(())
 }
 
 // The graph's counts, and the end of the line.
-fn print_counts(g: CircuitDag) {
-    print(b", nodes");
-    print_number(g.nodes.count);
-    print(b" edges");
-    print_number(g.edges.count);
-    print(b" entries");
-    print_number(g.first_registers.count);
-    print_number(g.last_registers.count);
-    print(b"\n");
+fn print_counts(rt: &impl Print, g: CircuitDag) -> io::Result<()> {
+    print(rt, b", nodes")?;
+    print_number(rt, g.nodes.count)?;
+    print(rt, b" edges")?;
+    print_number(rt, g.edges.count)?;
+    print(rt, b" entries")?;
+    print_number(rt, g.first_registers.count)?;
+    print_number(rt, g.last_registers.count)?;
+    print(rt, b"\n")
 }
 
-fn print_loaded(title: &[u8], x: Loaded) {
-    print(title);
+fn print_loaded(rt: &impl Print, title: &[u8], x: Loaded) -> io::Result<()> {
+    print(rt, title)?;
     let answer = x.answer;
     match answer {
-        Outcome::Done => print(b" accepted"),
-        Outcome::Refused(r) => print_refusal(r),
+        Outcome::Done => print(rt, b" accepted")?,
+        Outcome::Refused(r) => print_refusal(rt, r)?,
     }
-    print_counts(x.graph);
+    print_counts(rt, x.graph)
 }
 
 // One insertion; the graph that it returns.
-fn insert_one(g: CircuitDag, part: &[u8]) -> CircuitDag {
-    print(b"insert");
+fn insert_one(rt: &impl Print, g: CircuitDag, part: &[u8]) -> io::Result<CircuitDag> {
+    print(rt, b"insert")?;
     let x = insertion::insert(g, part);
     let answer = x.answer;
     match answer {
         Answer::Node(v) => {
-            print(b" node");
-            print_number(file::to_index(v.0));
+            print(rt, b" node")?;
+            print_number(rt, file::to_index(v.0))?;
         }
-        Answer::Refused(r) => print_refusal(r),
+        Answer::Refused(r) => print_refusal(rt, r)?,
     }
-    print_counts(x.graph);
-    x.graph
+    print_counts(rt, x.graph)?;
+    Ok(x.graph)
 }
 
 // The file's records, one after the other.
-fn insert_each(file: &[u8]) -> CircuitDag {
+fn insert_each(rt: &impl Print, file: &[u8]) -> io::Result<CircuitDag> {
     let n = file::record_count(file);
     let mut g = CircuitDag::new();
     let mut i: usize = 0;
     while i < n {
-        g = insert_one(g, file::part_of(file, i));
+        g = insert_one(rt, g, file::part_of(file, i))?;
         i += 1;
     }
-    g
+    Ok(g)
 }
 
-fn print_file(file: &[u8]) {
-    print(b"file of");
-    print_number(file.len());
-    print(b" bytes\n");
-    print_loaded(b"load", insertion::load(file));
-    print_loaded(b"from_circuit", insertion::from_circuit(file));
-    let mut g = insert_each(file);
+fn print_file(rt: &impl Print, file: &[u8]) -> io::Result<()> {
+    print(rt, b"file of")?;
+    print_number(rt, file.len())?;
+    print(rt, b" bytes\n")?;
+    print_loaded(rt, b"load", insertion::load(file))?;
+    print_loaded(rt, b"from_circuit", insertion::from_circuit(file))?;
+    let mut g = insert_each(rt, file)?;
     // A count of insertions that is off: the graph is not sound.
     g.backs = if g.backs < 512 { g.backs + 1 } else { 0 };
-    insert_one(g, file::part_of(file, 0));
+    insert_one(rt, g, file::part_of(file, 0))?;
+    Ok(())
 }
 
 // The number in two bytes.
@@ -97,17 +98,19 @@ fn pair(low: u8, high: u8) -> usize {
     low as usize + 256 * (high as usize)
 }
 
-fn main() {
-    let mut input = io::large_buffer();
-    let n = io::read_full(STDIN_FILENO, &mut input);
+fn main(rt: HostRuntime) -> io::Result<()> {
+    let mut input = Vec::new(rt.alloc());
+    rt.reader().take(65536).read_to_end(&mut input)?;
+    let n = input.len();
     let mut at: usize = 0;
     while at + 2 <= n {
         let start = at + 2;
         let size = pair(input[at], input[at + 1]);
         if n - start < size {
-            return;
+            return Ok(());
         }
-        print_file(&input[start..start + size]);
+        print_file(&rt, &input[start..start + size])?;
         at = start + size;
     }
+    Ok(())
 }
