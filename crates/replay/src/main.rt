@@ -7,8 +7,8 @@ ghost use Rattle.std.specs.Prelude.{◌≡◌, ◌+◌, ◌<◌, ◌≤◌, min,
 use file::{Outcome, Refusal, RefusalValue};
 use graph::{CircuitDag, Commuting, End, NodeIndex, Registers};
 use insertion::Loaded;
-use libc::{STDIN_FILENO, STDOUT_FILENO};
 use queries::Query;
+use std::io::{self, Read};
 use walk::{BlockCount, NextBlock, ParallelBlocks};
 
 // A byte of the input, 0 past its end.
@@ -33,31 +33,32 @@ fn number_at(bytes: &[u8], i: usize) -> usize
     wide(byte_at(bytes, i)) + 256 * wide(byte_at(bytes, i + 1))
 }
 
-fn print(text: &[u8]) {
-    io::write_all(STDOUT_FILENO, text);
+fn print(rt: &impl Print, text: &[u8]) -> io::Result<()> {
+    rt.write_all(text)
 }
 
 // A number behind a sign.
-fn print_after(sign: &[u8], n: usize) {
-    io::write_all(STDOUT_FILENO, sign);
-    io::print_decimal(STDOUT_FILENO, n as u64);
+fn print_after(rt: &impl Print, sign: &[u8], n: usize) -> io::Result<()> {
+    rt.write_all(sign)?;
+    print!(rt; "{n}")
 }
 
-fn print_number(n: usize) {
-    print_after(b" ", n);
+fn print_number(rt: &impl Print, n: usize) -> io::Result<()> {
+    print_after(rt, b" ", n)
 }
 
-fn print_refusal(r: Refusal) {
-    print(b" refused");
-    print_number(wide(file::refusal_number(r)));
+fn print_refusal(rt: &impl Print, r: Refusal) -> io::Result<()> {
+    print(rt, b" refused")?;
+    print_number(rt, wide(file::refusal_number(r)))?;
     let value = file::refusal_value(r);
     match value {
         RefusalValue::Nothing => {}
         RefusalValue::At(i) => {
-            print(b" at");
-            print_number(i);
+            print(rt, b" at")?;
+            print_number(rt, i)?;
         }
     }
+    Ok(())
 }
 
 fn wide_node(x: u16) -> usize {
@@ -65,65 +66,66 @@ fn wide_node(x: u16) -> usize {
 }
 
 // The first k entries of a list.
-fn print_first(list: &[u16], k: usize) {
+fn print_first(rt: &impl Print, list: &[u16], k: usize) -> io::Result<()> {
     let mut i: usize = 0;
     while i < k {
         if list.len() <= i {
-            return;
+            return Ok(());
         }
-        print_number(wide_node(list[i]));
+        print_number(rt, wide_node(list[i]))?;
         i += 1;
     }
+    Ok(())
 }
 
 // A query's answer.
-fn print_query(title: &[u8], answer: Query, buffer: &[u16]) {
-    print(title);
+fn print_query(rt: &impl Print, title: &[u8], answer: Query, buffer: &[u16]) -> io::Result<()> {
+    print(rt, title)?;
     match answer {
-        Query::Entries(k) => print_first(buffer, k),
-        Query::Refused(r) => print_refusal(r),
+        Query::Entries(k) => print_first(rt, buffer, k)?,
+        Query::Refused(r) => print_refusal(rt, r)?,
     }
-    print(b"\n");
+    print(rt, b"\n")
 }
 
 // A set's members.
-fn print_marks(title: &[u8], marks: &[bool; 512])
+fn print_marks(rt: &impl Print, title: &[u8], marks: &[bool; 512]) -> io::Result<()>
     requires { length marks.now ≡ 512 }
 {
-    print(title);
+    print(rt, title)?;
     let mut v: usize = 0;
     while v < 512 {
         if marks[v] {
-            print_number(v);
+            print_number(rt, v)?;
         }
         v += 1;
     }
-    print(b"\n");
+    print(rt, b"\n")
 }
 
 // A map from qubit to node: each qubit and its node.
-fn print_map(title: &[u8], map: &[u16; 64])
+fn print_map(rt: &impl Print, title: &[u8], map: &[u16; 64]) -> io::Result<()>
     requires { length map.now ≡ 64 }
 {
-    print(title);
+    print(rt, title)?;
     let mut q: usize = 0;
     while q < 64 {
         let v = map[q];
         if v != 65535 {
-            print_number(q);
-            print_after(b">", wide_node(v));
+            print_number(rt, q)?;
+            print_after(rt, b">", wide_node(v))?;
         }
         q += 1;
     }
-    print(b"\n");
+    print(rt, b"\n")
 }
 
-fn print_all_node(title: &[u8], all: NodeIndex) {
-    print(title);
+fn print_all_node(rt: &impl Print, title: &[u8], all: NodeIndex) -> io::Result<()> {
+    print(rt, title)?;
     if all.0 != 65535 {
-        print_number(wide_node(all.0));
+        print_number(rt, wide_node(all.0))?;
     }
-    print(b"\n");
+    print(rt, b"\n")
 }
 
 // The node of a key, 65535 where it is absent.
@@ -142,107 +144,109 @@ fn node_of(r: Registers, name: u8, index: u16) -> u16 {
     65535
 }
 
-fn print_entry(r: Registers, name: u8, index: u16) {
+fn print_entry(rt: &impl Print, r: Registers, name: u8, index: u16) -> io::Result<()> {
     let v = node_of(r, name, index);
     if v != 65535 {
-        print_number(wide(name));
-        print_after(b".", wide_node(index));
-        print_after(b">", wide_node(v));
+        print_number(rt, wide(name))?;
+        print_after(rt, b".", wide_node(index))?;
+        print_after(rt, b">", wide_node(v))?;
     }
+    Ok(())
 }
 
 // How many entries, then those of names 0 to 3 with indices 0 to 255, ascending; the circuits have no others.
-fn print_registers(title: &[u8], r: Registers) {
-    print(title);
-    print_number(r.count);
-    print(b":");
+fn print_registers(rt: &impl Print, title: &[u8], r: Registers) -> io::Result<()> {
+    print(rt, title)?;
+    print_number(rt, r.count)?;
+    print(rt, b":")?;
     let mut k: usize = 0;
     while k < 1024 {
-        print_entry(r, (k / 256) as u8, (k % 256) as u16);
+        print_entry(rt, r, (k / 256) as u8, (k % 256) as u16)?;
         k += 1;
     }
-    print(b"\n");
+    print(rt, b"\n")
 }
 
 // Kind, qubit form and label of each node, then its successors, predecessors and all nodes that block it.
-fn print_node(g: CircuitDag, v: u16) {
+fn print_node(rt: &impl Print, g: CircuitDag, v: u16) -> io::Result<()> {
     let mut buffer = [0u16; 512];
     let none = [0u16; 0];
     let a = queries::successors(g, NodeIndex(v), &mut buffer);
-    print_query(b"successors:", a, &buffer);
+    print_query(rt, b"successors:", a, &buffer)?;
     let b = queries::blocking_predecessors(g, &none, NodeIndex(v), &mut buffer);
-    print_query(b"predecessors:", b, &buffer);
+    print_query(rt, b"predecessors:", b, &buffer)?;
     let c = queries::execution_blocked(g, &none, NodeIndex(v), &mut buffer);
-    print_query(b"blocked by:", c, &buffer);
+    print_query(rt, b"blocked by:", c, &buffer)
 }
 
-fn print_kind(g: CircuitDag, v: usize)
+fn print_kind(rt: &impl Print, g: CircuitDag, v: usize) -> io::Result<()>
     requires { v < 512 }
 {
     let nodes = g.nodes;
-    print(b"node");
-    print_number(v);
-    print(b":");
-    print_number(wide(nodes.kind[v]));
-    print_number(wide(nodes.form[v]));
-    print_number(wide_node(nodes.label[v]));
-    print(b"\n");
+    print(rt, b"node")?;
+    print_number(rt, v)?;
+    print(rt, b":")?;
+    print_number(rt, wide(nodes.kind[v]))?;
+    print_number(rt, wide(nodes.form[v]))?;
+    print_number(rt, wide_node(nodes.label[v]))?;
+    print(rt, b"\n")
 }
 
-fn print_nodes(g: CircuitDag) {
+fn print_nodes(rt: &impl Print, g: CircuitDag) -> io::Result<()> {
     let n = g.nodes.count;
     let mut v: usize = 0;
     while v < n {
         if 512 <= v {
-            return;
+            return Ok(());
         }
-        print_kind(g, v);
-        print_node(g, v as u16);
+        print_kind(rt, g, v)?;
+        print_node(rt, g, v as u16)?;
         v += 1;
     }
+    Ok(())
 }
 
 // Each node's block.
-fn print_walk(g: CircuitDag) {
+fn print_walk(rt: &impl Print, g: CircuitDag) -> io::Result<()> {
     let mut buffer = [0u16; 512];
     let count = walk::whole_walk(g, &mut buffer);
-    print(b"blocks");
+    print(rt, b"blocks")?;
     match count {
         BlockCount::Blocks(k) => {
-            print_number(k);
-            print(b":");
-            print_first(&buffer, g.nodes.count);
+            print_number(rt, k)?;
+            print(rt, b":")?;
+            print_first(rt, &buffer, g.nodes.count)?;
         }
-        BlockCount::Refused(r) => print_refusal(r),
+        BlockCount::Refused(r) => print_refusal(rt, r)?,
     }
-    print(b"\n");
+    print(rt, b"\n")
 }
 
 // One end: its map, its all-qubit node, its block.
-fn print_end(title: &[u8], e: End) {
-    print(title);
+fn print_end(rt: &impl Print, title: &[u8], e: End) -> io::Result<()> {
+    print(rt, title)?;
     let node = e.node;
-    print_map(b" map:", &node);
-    print_all_node(b"all-qubit:", e.all);
+    print_map(rt, b" map:", &node)?;
+    print_all_node(rt, b"all-qubit:", e.all)?;
     let block = e.block;
-    print_marks(b"block:", &block);
+    print_marks(rt, b"block:", &block)
 }
 
-fn print_commuting(c: Commuting) {
+fn print_commuting(rt: &impl Print, c: Commuting) -> io::Result<()> {
     let list = c.list;
-    print(b"commuting:");
-    print_first(&list, c.count);
-    print(b"\n");
+    print(rt, b"commuting:")?;
+    print_first(rt, &list, c.count)?;
+    print(rt, b"\n")
 }
 
-fn print_graph(g: CircuitDag) {
-    print_nodes(g);
-    print_end(b"first", g.first);
-    print_end(b"last", g.last);
-    print_registers(b"first registers", g.first_registers);
-    print_registers(b"last registers", g.last_registers);
-    print_commuting(g.commuting);
-    print_walk(g);
+fn print_graph(rt: &impl Print, g: CircuitDag) -> io::Result<()> {
+    print_nodes(rt, g)?;
+    print_end(rt, b"first", g.first)?;
+    print_end(rt, b"last", g.last)?;
+    print_registers(rt, b"first registers", g.first_registers)?;
+    print_registers(rt, b"last registers", g.last_registers)?;
+    print_commuting(rt, g.commuting)?;
+    print_walk(rt, g)
 }
 
 // The set of the numbers of a list.
@@ -274,7 +278,7 @@ fn numbers_of(list: &[u8], numbers: &mut [u16; 32]) -> usize
 }
 
 // One step of the walk from two sets.
-fn print_step(g: CircuitDag, current: &[u8], executed: &[u8]) {
+fn print_step(rt: &impl Print, g: CircuitDag, current: &[u8], executed: &[u8]) -> io::Result<()> {
     let state = ParallelBlocks {
         current: marks_of(current),
         executed: marks_of(executed),
@@ -282,38 +286,50 @@ fn print_step(g: CircuitDag, current: &[u8], executed: &[u8]) {
     let mut buffer = [0u16; 512];
     let step = state.next(g, &mut buffer);
     let answer = step.answer;
-    print(b"step:");
+    print(rt, b"step:")?;
     match answer {
-        NextBlock::Block(k) => print_first(&buffer, k),
-        NextBlock::None => print(b" none"),
-        NextBlock::Refused(r) => print_refusal(r),
+        NextBlock::Block(k) => print_first(rt, &buffer, k)?,
+        NextBlock::None => print(rt, b" none")?,
+        NextBlock::Refused(r) => print_refusal(rt, r)?,
     }
-    print(b"\n");
+    print(rt, b"\n")?;
     let after = step.walk;
     let marks = after.executed;
-    print_marks(b"executed:", &marks);
+    print_marks(rt, b"executed:", &marks)
 }
 
 // The queries at a node, with an executed list and a layer.
-fn print_answers(g: CircuitDag, v: NodeIndex, executed: &[u16], layer: &[u16]) {
+fn print_answers(
+    rt: &impl Print,
+    g: CircuitDag,
+    v: NodeIndex,
+    executed: &[u16],
+    layer: &[u16],
+) -> io::Result<()> {
     let mut buffer = [0u16; 512];
     let a = queries::execution_blocked(g, executed, v, &mut buffer);
-    print_query(b"query, blocked by:", a, &buffer);
+    print_query(rt, b"query, blocked by:", a, &buffer)?;
     let b = queries::blocking_predecessors(g, executed, v, &mut buffer);
-    print_query(b"predecessors:", b, &buffer);
+    print_query(rt, b"predecessors:", b, &buffer)?;
     let c = queries::new_front_layer(g, executed, layer, v, &mut buffer);
-    print_query(b"layer:", c, &buffer);
+    print_query(rt, b"layer:", c, &buffer)
 }
 
 // The same, the lists being bytes.
-fn print_queries(g: CircuitDag, v: u8, executed: &[u8], layer: &[u8]) {
+fn print_queries(
+    rt: &impl Print,
+    g: CircuitDag,
+    v: u8,
+    executed: &[u8],
+    layer: &[u8],
+) -> io::Result<()> {
     let mut done = [0u16; 32];
     let k = numbers_of(executed, &mut done);
     let mut line = [0u16; 32];
     let m = numbers_of(layer, &mut line);
     let start: usize = 0;
     let node = wide(v) as u16;
-    print_answers(g, NodeIndex(node), &done[start..k], &line[start..m]);
+    print_answers(rt, g, NodeIndex(node), &done[start..k], &line[start..m])
 }
 
 // Where a part of n bytes that starts at `at` ends, at most at the input's end.
@@ -344,7 +360,7 @@ fn list_of(list: &[u8]) -> &[u8] {
 }
 
 // The query that starts at `at`: a node, the executed list, the layer, the walk's current nodes. Where it ends.
-fn replay_query(g: CircuitDag, item: &[u8], at: usize) -> usize
+fn replay_query(rt: &impl Print, g: CircuitDag, item: &[u8], at: usize) -> io::Result<usize>
     requires { at < length item.now }
     ensures { (at < result) × (result ≤ length item.now) }
 {
@@ -355,9 +371,9 @@ fn replay_query(g: CircuitDag, item: &[u8], at: usize) -> usize
     let executed = list_of(&item[a..b]);
     let layer = list_of(&item[b..c]);
     let current = list_of(&item[c..d]);
-    print_queries(g, item[at], executed, layer);
-    print_step(g, current, executed);
-    d
+    print_queries(rt, g, item[at], executed, layer)?;
+    print_step(rt, g, current, executed)?;
+    Ok(d)
 }
 
 fn build(converted: bool, file: &[u8]) -> Loaded {
@@ -367,52 +383,53 @@ fn build(converted: bool, file: &[u8]) -> Loaded {
     insertion::load(file)
 }
 
-fn replay_queries(g: CircuitDag, item: &[u8], start: usize)
+fn replay_queries(rt: &impl Print, g: CircuitDag, item: &[u8], start: usize) -> io::Result<()>
     requires { start ≤ length item.now }
 {
     let mut at: usize = start;
     while at < item.len() {
-        at = replay_query(g, item, at);
+        at = replay_query(rt, g, item, at)?;
     }
+    Ok(())
 }
 
 // An item: its length, whether the file is converted or loaded, the file's length, the file, queries.
-fn replay_item(item: &[u8]) {
+fn replay_item(rt: &impl Print, item: &[u8]) -> io::Result<()> {
     if item.len() < 5 {
-        return;
+        return Ok(());
     }
     let at: usize = 5;
     let end = end_of(item, at, number_at(item, 3));
     let x = build(item[2] == 1, &item[at..end]);
     let answer = x.answer;
     match answer {
-        Outcome::Done => print(b"circuit\n"),
+        Outcome::Done => print(rt, b"circuit\n")?,
         Outcome::Refused(r) => {
-            print(b"circuit");
-            print_refusal(r);
-            print(b"\n");
+            print(rt, b"circuit")?;
+            print_refusal(rt, r)?;
+            print(rt, b"\n")?;
         }
     }
     let g = x.graph;
-    print_graph(g);
-    replay_queries(g, item, end);
+    print_graph(rt, g)?;
+    replay_queries(rt, g, item, end)
 }
 
-fn replay_all(input: &[u8]) {
+fn replay_all(rt: &impl Print, input: &[u8]) -> io::Result<()> {
     let mut at: usize = 0;
     while at < input.len() {
         if 65536 <= at {
-            return;
+            return Ok(());
         }
         let end = end_of(input, at, 2 + number_at(input, at));
-        replay_item(&input[at..end]);
+        replay_item(rt, &input[at..end])?;
         at = end;
     }
+    Ok(())
 }
 
-fn main() {
-    let mut input = io::large_buffer();
-    let n = io::read_full(STDIN_FILENO, &mut input);
-    let start: usize = 0;
-    replay_all(&input[start..n]);
+fn main(rt: HostRuntime) -> io::Result<()> {
+    let mut input = Vec::new(rt.alloc());
+    rt.reader().take(65536).read_to_end(&mut input)?;
+    replay_all(&rt, &input)
 }
