@@ -1,0 +1,10 @@
+use mathlib.Core.Path.{refl, sym, ◌∙◌}
+use Rattle.host.proofs.inserting.insert_record.Goals as goal
+
+pub returns-then-not-is_dag : goal.returns-then-not-is_dag
+returns-then-not-is_dag c = let m = sym c.is_dag.ensures ∙ c.if-not-is_dag.true in rw (c.refuse.ensures, m) refl
+
+pub returns : goal.returns
+returns c =
+    let m = sym c.is_dag.ensures ∙ c.if-not-is_dag.false in
+    rw (c.of_inserted.ensures, c.host_dag-graph.ensures, m, ← c.dag_of.ensures, ← c.insert_by-x.ensures) refl

@@ -1,0 +1,4 @@
+use Rattle.planning.proofs.chains.+descend.Given as goal
+
+abbrev pub decreases-descend : goal.decreases-descend
+decreases-descend l = l.block
