@@ -1,9 +1,6 @@
 // The blocks of a circuit file.
 #![tactic(auto)]
 
-use std::io;
-
-fn main(rt: HostRuntime) -> io::Result<()> {
-    standard_io::print_blocks(&rt)?;
-    Ok(())
+fn main(rt: HostRuntime) {
+    standard_io::print_blocks(&rt);
 }

@@ -2,9 +2,7 @@
 #![tactic(auto)]
 
 use insertion::LoadingRule;
-use std::io;
 
-fn main(rt: HostRuntime) -> io::Result<()> {
-    standard_io::print_blocks_by(&rt, LoadingRule::FarAll)?;
-    Ok(())
+fn main(rt: HostRuntime) {
+    standard_io::print_blocks_by(&rt, LoadingRule::FarAll);
 }

@@ -1,36 +1,47 @@
 // The programs `blocks` and `blocks_both_ends` as one function, so that every program that is run on an input runs this one.
 #![tactic(auto)]
 
-ghost use Rattle.std.specs.Prelude.{IfOk};
+ghost use Rattle.std.specs.Prelude.{◌≤◌};
 ghost use Rattle.insertion.specs.declared.LoadingRule.TheVariants.{NearAll};
 ghost use Rattle.standard_io.specs.Printing.{Printed};
 
 use insertion::LoadingRule;
 use report::Text;
-use std::io::{self, Read};
+use std::io::Read;
+
+// Standard input's first 65,536 bytes, or all where they are fewer; how many there are. A read that fails ends the input.
+fn read_file(rt: &impl Input, file: &mut [u8; 65536]) -> usize
+    ensures { result ≤ 65536 }
+{
+    let mut input = rt.reader();
+    let mut n: usize = 0;
+    while n < 65536 {
+        let read = input.read(&mut file[n..]).unwrap_or(0);
+        if read == 0 {
+            break;
+        }
+        n += read;
+    }
+    n
+}
 
 // A circuit file on standard input, of which the first 65,536 bytes count, loaded in either way; its blocks, or its refusal, on standard
-// output. The text is returned too, since no contract can speak of what is written.
-pub fn print_blocks_by(
-    rt: &(impl Input + Print + AllocGlobal),
-    rule: LoadingRule,
-) -> io::Result<Text>
-    ensures { IfOk result (λ text. Printed rule text) }
+// output. The text is returned too, since no contract can speak of what is written, nor of whether it could be.
+pub fn print_blocks_by(rt: &(impl Input + Print), rule: LoadingRule) -> Text
+    ensures { Printed rule result }
 {
-    let mut file = Vec::new(rt.alloc());
-    rt.reader().take(65536).read_to_end(&mut file)?;
-    // Drops nothing: no contract says that what `take` limits is that short.
-    file.truncate(65536);
-    let text = report::blocks_text_by(rule, &file);
+    let mut file = [0; 65536];
+    let n = read_file(rt, &mut file);
+    let text = report::blocks_text_by(rule, &file[..n]);
     let bytes = text.bytes;
     let length = text.length;
-    rt.write_all(&bytes[..length])?;
-    Ok(text)
+    let _ = rt.write_all(&bytes[..length]);
+    text
 }
 
 // The program `blocks`: document 01's way.
-pub fn print_blocks(rt: &(impl Input + Print + AllocGlobal)) -> io::Result<Text>
-    ensures { IfOk result (λ text. Printed NearAll text) }
+pub fn print_blocks(rt: &(impl Input + Print)) -> Text
+    ensures { Printed NearAll result }
 {
     print_blocks_by(rt, LoadingRule::NearAll)
 }
