@@ -2,7 +2,7 @@
 // answers to the same circuits (README.md), in the same form: sets ascending, appended nodes of a layer ascending.
 #![tactic(auto)]
 
-ghost use Rattle.std.specs.Prelude.{◌≡◌, ◌+◌, ◌<◌, ◌≤◌, min, length};
+ghost use Rattle.std.specs.Prelude.{◌≡◌, ◌+◌, ◌<◌, ◌≤◌, min, length, IfOk};
 
 use file::{Outcome, Refusal, RefusalValue};
 use graph::{CircuitDag, Commuting, End, NodeIndex, Registers};
@@ -362,7 +362,7 @@ fn list_of(list: &[u8]) -> &[u8] {
 // The query that starts at `at`: a node, the executed list, the layer, the walk's current nodes. Where it ends.
 fn replay_query(rt: &impl Print, g: CircuitDag, item: &[u8], at: usize) -> io::Result<usize>
     requires { at < length item.now }
-    ensures { (at < result) × (result ≤ length item.now) }
+    ensures { IfOk result (λ end. (at < end) × (end ≤ length item.now)) }
 {
     let a = at + 1;
     let b = list_end(item, a);
