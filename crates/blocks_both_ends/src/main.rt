@@ -1,8 +1,8 @@
 // The blocks of a circuit file that is loaded in K6's way.
 #![tactic(auto)]
 
-use insertion::LoadingRule;
+use links::LoadingRule;
 
 fn main(rt: HostRuntime) {
-    standard_io::print_blocks_by(&rt, LoadingRule::FarAll);
+    standard_io::print_blocks_by(&rt, links::FAR_ALL);
 }

@@ -108,7 +108,7 @@ fn print_graph(rt: &impl Print, g: CircuitDag) -> io::Result<()> {
 
 fn print_load(rt: &impl Print, file: &[u8]) -> io::Result<()> {
     print(rt, b"load_by")?;
-    let x = insertion::load_by(LoadingRule::FarAll, file);
+    let x = insertion::load_by(links::FAR_ALL, file);
     let answer = x.answer;
     match answer {
         Outcome::Done => print(rt, b" accepted")?,
@@ -163,7 +163,7 @@ fn insert_each(
 
 // The file's blocks, and its schedule.
 fn print_blocks(rt: &impl Print, file: &[u8]) -> io::Result<()> {
-    let text = report::blocks_text_by(LoadingRule::FarAll, file);
+    let text = report::blocks_text_by(links::FAR_ALL, file);
     let bytes = text.bytes;
     let length = text.length;
     rt.write_all(&bytes[..length])?;
@@ -185,8 +185,8 @@ fn print_file(rt: &impl Print, file: &[u8]) -> io::Result<()> {
     match found {
         FileCheck::Refused(r) => {}
         FileCheck::Sound => {
-            insert_each(rt, file, LoadingRule::FarAll, LoadingRule::FarAll)?;
-            insert_each(rt, file, LoadingRule::FarAll, LoadingRule::NearAll)?;
+            insert_each(rt, file, links::FAR_ALL, links::FAR_ALL)?;
+            insert_each(rt, file, links::FAR_ALL, links::NEAR_ALL)?;
         }
     }
     Ok(())

@@ -24,7 +24,7 @@ or_else a b = cond (present a) a b
 abbrev pub node : ℕ → NodeIndex
 node v = record { 0 = v }
 
--- "first and last map from qubit to node, first_all and last_all (absent at first), first and last block (sets)"
+-- "first and last map from qubit to node, firstAll and lastAll (absent at first), first and last block (sets)"
 unfoldable pub no_end : End
 no_end = record { node = replicate 64 absent; all = node absent; block = replicate 512 false }
 

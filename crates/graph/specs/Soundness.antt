@@ -37,7 +37,7 @@ numbers_below g =
 abbrev pub operation_at : CircuitDag → ℕ → Bool
 operation_at g v = is_operation (node_at g v)
 
--- "the qubit maps, first_all and last_all name only qubit operations"
+-- "the qubit maps, firstAll and lastAll name only qubit operations"
 abbrev pub name_operations : CircuitDag → Bool
 name_operations g = all_of (if_present (operation_at g)) (named g.first ++ named g.last)
 

@@ -26,14 +26,12 @@ use Rattle.file.proofs.BoolLaws.{bool_cases, clash_bool, not-true}
 use Rattle.graph.proofs.ListLaws.{all_here, all_fails}
 use Rattle.insertion.specs.declared.Answer.TheVariants.{Node, Refused}
 use Rattle.insertion.specs.declared.Inserted.{Inserted}
-use Rattle.links.specs.Links.{rule_if}
-use Rattle.insertion.specs.declared.LoadingRule.{LoadingRule}
+use Rattle.links.specs.Links.{rule_of, LoadingRule}
 use Rattle.insertion.specs.Insertion.{grown_at, grown}
-use Rattle.insertion.specs.Limits.{refused, rule_of, insert_by}
+use Rattle.insertion.specs.Limits.{refused, insert_by}
 use Rattle.insertion.specs.Calls.{Call as Insertion, bytes_of, graph_after, built as builtBy, all_by}
 use Rattle.graph.proofs.ListLaws.{all_same}
 use Rattle.insertion.proofs.SafeEdges.{between}
-use Rattle.insertion.proofs.RuleLaws.{is_far}
 use Rattle.insertion.proofs.CaseLaws.{insert_cases}
 use Rattle.insertion.proofs.BuiltLaws.{Safe, safe_empty, safe_insert}
 use Rattle.guarantee.specs.Guarantee.{Accepted, accepted_from, accepted, NoEmptySet, Bytes}
@@ -92,7 +90,7 @@ call_of far_all o = call_at far_all (front o.bytes) o.bytes
 unfoldable pub calls_from : CircuitDag → List Insertion → List Call
 calls_from g [] = []
 calls_from g (c ∷ l) = let s = c.bytes in let x = insert_by c.rule g s in
-    elim x.answer [ Node v ↦ call_at (is_far c.rule) (front s) s ∷ calls_from x.graph l | Refused r ↦ calls_from x.graph l ]
+    elim x.answer [ Node v ↦ call_at c.rule (front s) s ∷ calls_from x.graph l | Refused r ↦ calls_from x.graph l ]
 
 abbrev pub net_of : List Insertion → Net
 net_of l = run emptyNet (calls_from empty l)
@@ -137,7 +135,7 @@ insert-before N c u v = ⊎_elim
 abbrev pub next_place : Bool → CircuitDag → ℤ
 next_place b g = cond b (negsuc g.fronts) (pos g.backs)
 
-grown-size : (far_all b : Bool) (g : CircuitDag) (s : List ℕ) → size (grown_at (rule_if far_all) b g s) ≡ size g + 1
+grown-size : (far_all b : Bool) (g : CircuitDag) (s : List ℕ) → size (grown_at (rule_of far_all) b g s) ≡ size g + 1
 grown-size far_all true g s = refl
 grown-size far_all false g s = refl
 
@@ -193,7 +191,7 @@ module _ (far_all : Bool) (N : Net) (g : CircuitDag) (l : List Accepted) (T : Bu
       neither b = rw (both b) (or-false (N.before u v))
 
   abbrev g' : CircuitDag
-  g' = grown_at (rule_if far_all) (front s) g s
+  g' = grown_at (rule_of far_all) (front s) g s
 
   abbrev c : Call
   c = call_at far_all (front s) s
@@ -202,11 +200,11 @@ module _ (far_all : Bool) (N : Net) (g : CircuitDag) (l : List Accepted) (T : Bu
   N' = insert N c
 
   grown-between : (b : Bool) (p : ℤ) → between g.backs g.fronts p ≡ true
-      → between (grown_at (rule_if far_all) b g s).backs (grown_at (rule_if far_all) b g s).fronts p ≡ true
+      → between (grown_at (rule_of far_all) b g s).backs (grown_at (rule_of far_all) b g s).fronts p ≡ true
   grown-between true p h = between-front g.backs g.fronts p h
   grown-between false p h = between-back g.backs g.fronts p h
 
-  new-between : (b : Bool) → between (grown_at (rule_if far_all) b g s).backs (grown_at (rule_if far_all) b g s).fronts (next_place b g) ≡ true
+  new-between : (b : Bool) → between (grown_at (rule_of far_all) b g s).backs (grown_at (rule_of far_all) b g s).fronts (next_place b g) ≡ true
   new-between true = lt-ltb g.fronts (g.fronts + 1) (omega arith)
   new-between false = lt-ltb g.backs (g.backs + 1) (omega arith)
 
@@ -262,7 +260,7 @@ accept_step b f s l x = elim x.answer [
 -- .. and the accepted calls of c ∷ l
 abbrev call_step : Insertion → List Insertion → Inserted → List Call
 call_step c l x = let s = c.bytes in
-    elim x.answer [ Node v ↦ call_at (is_far c.rule) (front s) s ∷ calls_from x.graph l | Refused r ↦ calls_from x.graph l ]
+    elim x.answer [ Node v ↦ call_at c.rule (front s) s ∷ calls_from x.graph l | Refused r ↦ calls_from x.graph l ]
 
 -- no accepted record has an empty set, in whatever ways they come in
 none-empty : (l : List Insertion) (g : CircuitDag) (b f : ℕ) → any_of (λ (o : Accepted). empty_set o.bytes) (accepted_from g b f l) ≡ false
@@ -287,7 +285,7 @@ count-from (c ∷ l) g b f G = insert_told c.rule g s
     (λ x. Safe false x.graph → size (graph_after x.graph l) ≡ size g + length (accept_step b f s l x))
     (λ r G. count-from l g b f G)
     (λ k low H.
-    let e = ap size (grown-at c.rule g s) ∙ grown-size (is_far c.rule) (front s) g s in
+    let e = ap size (grown-at c.rule g s) ∙ grown-size c.rule (front s) g s in
     let r = count-from l (grown (rule_of c.rule) g s) (cond (front s) b (b + 1)) (cond (front s) (f + 1) f) H in
     omega (arith, e, r))
     (safe_insert c.rule g s G)
@@ -324,7 +322,7 @@ built-from (c ∷ l) N g b f d T p q h = insert_told rule g s
     rule = c.rule
 
     far : Bool
-    far = is_far c.rule
+    far = c.rule
 
     s : List ℕ
     s = c.bytes
@@ -338,11 +336,11 @@ built-from (c ∷ l) N g b f d T p q h = insert_told rule g s
     rest : Bytes (bytes_of l)
     rest = sym (all_here (all_of (λ b. ltb b 256)) s (bytes_of l) here) ∙ h
 
-    backs : (x : Bool) → cond x b (b + 1) ≡ (grown_at (rule_if far) x g s).backs
+    backs : (x : Bool) → cond x b (b + 1) ≡ (grown_at (rule_of far) x g s).backs
     backs true = p
     backs false = ap (λ (k : ℕ). k + 1) p
 
-    fronts : (x : Bool) → cond x (f + 1) f ≡ (grown_at (rule_if far) x g s).fronts
+    fronts : (x : Bool) → cond x (f + 1) f ≡ (grown_at (rule_of far) x g s).fronts
     fronts true = ap (λ (k : ℕ). k + 1) q
     fronts false = q
 
@@ -383,14 +381,14 @@ bytes_by rule [] = refl
 bytes_by rule (s ∷ l) = ap (λ (t : List (List ℕ)). s ∷ t) (bytes_by rule l)
 
 calls-from : (rule : LoadingRule) (l : List (List ℕ)) (g : CircuitDag) (b f : ℕ)
-    → calls_from g (all_by rule l) ≡ map (call_of (is_far rule)) (accepted_from g b f (all_by rule l))
+    → calls_from g (all_by rule l) ≡ map (call_of rule) (accepted_from g b f (all_by rule l))
 unfolding calls_from accepted_from
 calls-from rule [] g b f = refl
 calls-from rule (s ∷ l) g b f = insert_told rule g s
-    (λ x. call_step (record { rule = rule; bytes = s }) (all_by rule l) x ≡ map (call_of (is_far rule)) (accept_step b f s (all_by rule l) x))
+    (λ x. call_step (record { rule = rule; bytes = s }) (all_by rule l) x ≡ map (call_of rule) (accept_step b f s (all_by rule l) x))
     (λ r. calls-from rule l g b f)
-    (λ k low. ap (λ (t : List Call). call_at (is_far rule) (front s) s ∷ t)
+    (λ k low. ap (λ (t : List Call). call_at rule (front s) s ∷ t)
     (calls-from rule l (grown (rule_of rule) g s) (cond (front s) b (b + 1)) (cond (front s) (f + 1) f)))
 
-pub calls_by : (rule : LoadingRule) (l : List (List ℕ)) → calls_from empty (all_by rule l) ≡ map (call_of (is_far rule)) (accepted (all_by rule l))
+pub calls_by : (rule : LoadingRule) (l : List (List ℕ)) → calls_from empty (all_by rule l) ≡ map (call_of rule) (accepted (all_by rule l))
 calls_by rule l = calls-from rule l empty 0 0

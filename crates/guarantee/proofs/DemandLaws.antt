@@ -18,16 +18,13 @@ use Rattle.graph.specs.Soundness.{sound}
 use Rattle.file.proofs.BoolLaws.{bool_cases, clash_bool, not-true, bool_ext, and_l, and_r, eqb-flip}
 use Rattle.graph.proofs.ListLaws.{any_here, any-later, keep-any, member-keep, length-up_to, up_to-at}
 use Rattle.insertion.specs.Calls.{Call, bytes_of, built as builtBy, all_by, final_by}
-use Rattle.insertion.proofs.RuleLaws.{is_far}
 use Rattle.insertion.proofs.BuiltLaws.{sound-built}
 use Rattle.insertion.proofs.CaseLaws.{insert_cases}
 use Rattle.graph.specs.declared.NodeIndex.{NodeIndex}
-use Rattle.links.specs.Links.{FarRule}
-use Rattle.insertion.specs.declared.LoadingRule.{LoadingRule}
-use Rattle.insertion.specs.declared.LoadingRule.TheVariants.{NearAll, FarAll}
+use Rattle.links.specs.Links.{FarRule, LoadingRule, NearAll, FarAll, rule_of}
 use Rattle.insertion.specs.declared.Answer.TheVariants.{Node}
 use Rattle.insertion.specs.declared.Inserted.{Inserted}
-use Rattle.insertion.specs.Limits.{rule_of, insert_as}
+use Rattle.insertion.specs.Limits.{insert_as}
 use Rattle.walk.specs.declared.BlockCount.TheVariants.{Blocks, Refused as NotWalked}
 use Rattle.walk.specs.Blocks.{Walked, state_after, block_of_step, blocks, number_from}
 use Rattle.guarantee.specs.Guarantee.{Accepted, accepted, takes_qubits, operations, Each, Orders, different}
@@ -254,7 +251,7 @@ module _ (calls : List Call) (buffer : List ℕ) (bytes : Bytes (bytes_of calls)
 
 -- every list of insertions all in one way that meets a condition by which its net keeps the invariant
 guaranteed_by : (rule : LoadingRule) (Meets : List (List ℕ) → Type 0) → ((l : List (List ℕ)) → Meets l → Bytes l)
-    → ((l : List (List ℕ)) → Meets l → let cs = map (call_of (is_far rule)) (accepted (all_by rule l)) in NonEmpties cs
+    → ((l : List (List ℕ)) → Meets l → let cs = map (call_of rule) (accepted (all_by rule l)) in NonEmpties cs
     → ((u : ℕ) → u < length (accepted (all_by rule l)) → record_rule (at (accepted (all_by rule l)) u).bytes ≡ true)
     → ((u : ℕ) → u < length (accepted (all_by rule l)) → all_of (λ b. ltb b 256) (at (accepted (all_by rule l)) u).bytes ≡ true) → Base (run empty cs))
     → Guaranteed rule Meets
@@ -264,7 +261,7 @@ guaranteed_by rule Meets bytes base = record {
       let done = accepted (all_by rule l) in
       let B = subst Bytes (sym (bytes_by rule l)) (bytes l M) in
       let T = built (all_by rule l) B in
-      let e = nonempties (is_far rule) done T.rule T.bytes (no_empty_set (all_by rule l)) in
+      let e = nonempties rule done T.rule T.bytes (no_empty_set (all_by rule l)) in
       guaranteed (all_by rule l) buffer B (subst (λ (cs : List NetCall). Base (run empty cs)) (sym (calls_by rule l)) (base l M e T.rule T.bytes)) room;
 }
 

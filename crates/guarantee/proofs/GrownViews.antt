@@ -16,12 +16,9 @@ use Rattle.graph.specs.declared.CircuitDag.{CircuitDag}
 use Rattle.graph.specs.Dag.{Edge, edge, size, edge_at, same_edge, has_edge, with_edges}
 use Rattle.file.proofs.BoolLaws.{bool_cases, bool_ext, and_intro, or_cases, or_inl, or_inr}
 use Rattle.graph.proofs.ListLaws.{map_at, any_here, any-later, any_at, at-any, any-up_to, up_to-any}
-use Rattle.links.specs.Links.{FarRule, rule_if, link, link_by}
+use Rattle.links.specs.Links.{FarRule, rule_of, link, link_by, LoadingRule}
 use Rattle.registers.specs.Registers.{with_entries}
-use Rattle.insertion.specs.declared.LoadingRule.{LoadingRule}
 use Rattle.insertion.specs.Insertion.{facing, linked, grown_at, grown}
-use Rattle.insertion.specs.Limits.{rule_of}
-use Rattle.insertion.proofs.RuleLaws.{is_far, rule_is}
 use Rattle.insertion.proofs.BuiltLaws.{Safe}
 use Rattle.insertion.proofs.SafeEdges.{appended-old, appended-new}
 use Rattle.guarantee.proofs.LinkViews.{Sees, Fits, take_by, link_sees}
@@ -116,9 +113,9 @@ sees_flip n E near far N S = record {
   heads = S.tails;
 }
 
-pub grown-at : (rule : LoadingRule) (g : CircuitDag) (s : List ℕ) → grown (rule_of rule) g s ≡ grown_at (rule_if (is_far rule)) (front s) g s
+pub grown-at : (rule : LoadingRule) (g : CircuitDag) (s : List ℕ) → grown (rule_of rule) g s ≡ grown_at (rule_of rule) (front s) g s
 unfolding grown
-grown-at rule g s = ap (λ (r : FarRule). grown_at r (front s) g s) (sym (rule_is rule))
+grown-at rule g s = refl
 
 abbrev pub call_at : Bool → Bool → List ℕ → Call
 call_at far_all b s = record { far = far_all; front = b; takes = take_by (qubits_of s) }
@@ -129,7 +126,7 @@ module _ (g : CircuitDag) (s : List ℕ) (G : Safe false g) (low : size g < 512)
     low = low;
     near_nodes = G.near.nodes;
     far_nodes = G.far.nodes;
-    near-block = G.near.blocks;
+    near_block = G.near.blocks;
     far-block = G.far.blocks;
     entries = λ q p. (G.near.entry q p).below;
     all = λ p. (G.near.all p).below;
@@ -141,7 +138,7 @@ module _ (g : CircuitDag) (s : List ℕ) (G : Safe false g) (low : size g < 512)
     low = low;
     near_nodes = G.far.nodes;
     far_nodes = G.near.nodes;
-    near-block = G.far.blocks;
+    near_block = G.far.blocks;
     far-block = G.near.blocks;
     entries = λ q p. (G.far.entry q p).below;
     all = λ p. (G.far.all p).below;
@@ -154,11 +151,11 @@ module _ (g : CircuitDag) (s : List ℕ) (G : Safe false g) (low : size g < 512)
   in_to : g.edges.count ≤ length g.edges.to
   in_to = omega (arith, G.edges.count, G.edges.to-size)
 
-  pub grown_seen : (far_all b : Bool) (N : Net) → Seen g N → Seen (grown_at (rule_if far_all) b g s) (insert N (call_at far_all b s))
+  pub grown_seen : (far_all b : Bool) (N : Net) → Seen g N → Seen (grown_at (rule_of far_all) b g s) (insert N (call_at far_all b s))
   grown_seen far_all false N S = sees_as (size g + 1) _ _ _ _ _ (link_sees far_all (qubits_of s) (size g) (λ a b. has_edge g a b) g.last g.first N S fits_last)
-      (λ a b. sym (edges_in g.edges (map (link false (size g)) (link_by (qubits_of s) (rule_if far_all) (size g) g.last g.first).others) in_from in_to a b
-      ∙ ap (λ (x : Bool). has_edge g a b || x) (links-back (size g) a b (link_by (qubits_of s) (rule_if far_all) (size g) g.last g.first).others)))
+      (λ a b. sym (edges_in g.edges (map (link false (size g)) (link_by (qubits_of s) (rule_of far_all) (size g) g.last g.first).others) in_from in_to a b
+      ∙ ap (λ (x : Bool). has_edge g a b || x) (links-back (size g) a b (link_by (qubits_of s) (rule_of far_all) (size g) g.last g.first).others)))
   grown_seen far_all true N S = sees_as (size g + 1) _ _ _ _ _ (sees_flip (size g + 1) _ _ _ _
       (link_sees far_all (qubits_of s) (size g) (λ a b. has_edge g b a) g.first g.last (flip N) (sees_flip (size g) (λ a b. has_edge g a b) g.last g.first N S) fits_first))
-      (λ a b. sym (edges_in g.edges (map (link true (size g)) (link_by (qubits_of s) (rule_if far_all) (size g) g.first g.last).others) in_from in_to a b
-      ∙ ap (λ (x : Bool). has_edge g a b || x) (links-front (size g) a b (link_by (qubits_of s) (rule_if far_all) (size g) g.first g.last).others)))
+      (λ a b. sym (edges_in g.edges (map (link true (size g)) (link_by (qubits_of s) (rule_of far_all) (size g) g.first g.last).others) in_from in_to a b
+      ∙ ap (λ (x : Bool). has_edge g a b || x) (links-front (size g) a b (link_by (qubits_of s) (rule_of far_all) (size g) g.first g.last).others)))

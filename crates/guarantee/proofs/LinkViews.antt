@@ -19,7 +19,7 @@ use Rattle.graph.specs.declared.End.{End}
 use Rattle.graph.specs.Dag.{absent, present, or_else, node, at_qubit}
 use Rattle.file.proofs.BoolLaws.{bool_cases, clash_bool, not-true, bool_ext, and_l, and_r, and_intro, or_cases, or_inl, or_inr, flip-not, eqb_same, eqb-flip}
 use Rattle.graph.proofs.ListLaws.{any_here, any-later, any_at, at-any, any_snoc, distinct_first, distinct-rest}
-use Rattle.links.specs.Links.{Linked, FarRule, rule_if, source, near_after, no_qubit, qubits_from, qubits, link_qubits, link_set, mapped, link_all, link_by}
+use Rattle.links.specs.Links.{Linked, FarRule, rule_of, source, near_after, no_qubit, qubits_from, qubits, link_qubits, link_set, mapped, link_all, link_by}
 use Rattle.links.proofs.QubitLaws.{qubits_ascend}
 use Rattle.links.proofs.LinkLaws.{low_present, qubits_in, add_present, link_one, ascend_distinct, steady_rule, set_entries, set_outside, far_entry}
 use Rattle.graph.proofs.ListLaws.{all_same}
@@ -236,7 +236,7 @@ pub record Fits (n : ℕ) (near far : End) : Type 0 where
   pub low : n < 512
   pub near_nodes : length near.node ≡ 64
   pub far_nodes : length far.node ≡ 64
-  pub near-block : length near.block ≡ 512
+  pub near_block : length near.block ≡ 512
   pub far-block : length far.block ≡ 512
   pub entries : (q : ℕ) → present (at_qubit near q) ≡ true → at_qubit near q < n
   pub all : present near.all.0 ≡ true → near.all.0 < n
@@ -275,7 +275,7 @@ module _ (n : ℕ) (E : ℕ → ℕ → Bool) (near far : End) (N : Net) (S : Se
     began = record { near = near; far = far; others = [] }
 
     abbrev x : Linked
-    x = link_set (rule_if far_all) m n near far
+    x = link_set (rule_of far_all) m n near far
 
     once : distinct eqb (qubits m) ≡ true
     once = ascend_distinct (qubits m) (qubits_ascend 64 0 m)
@@ -286,7 +286,7 @@ module _ (n : ℕ) (E : ℕ → ℕ → Bool) (near far : End) (N : Net) (S : Se
     set_others a =
         any_ext 64 _ _ (λ q l. ap (λ (b : Bool). has m q && b) (ap (λ (o : Option ℕ). is o a) (source_is q l) ∙ found-is (source near q) a))
         ∙ sym (has-any m (λ q. is_at (source near q) a))
-        ∙ sym (link_others n (rule_if far_all) (qubits m) began once a)
+        ∙ sym (link_others n (rule_of far_all) (qubits m) began once a)
 
     set_pointed : any 64 (λ q. has m q && option_is_some (sourceIn N q)) ≡ not (is_empty x.others)
     set_pointed = bool_ext _ _
@@ -308,33 +308,33 @@ module _ (n : ℕ) (E : ℕ → ℕ → Bool) (near far : End) (N : Net) (S : Se
     set_lasts : (q : ℕ) → q < 64 → cond (has m q) (some N.size) (N.last q) ≡ found (at_qubit x.near q)
     set_lasts q l = ⊎_elim
         (λ (e : has m q ≡ true). rw e (ap some S.size ∙ sym (found_low n F.low)
-        ∙ ap found (sym (set_entries (rule_if far_all) (steady_rule far_all) m n q near far e (omega (arith, F.near_nodes)) (omega (arith, F.far_nodes))).0)))
-        (λ (e : has m q ≡ false). rw e (S.lasts q l ∙ ap found (sym (set_outside (rule_if far_all) m n q near far e).0)))
+        ∙ ap found (sym (set_entries (rule_of far_all) (steady_rule far_all) m n q near far e (omega (arith, F.near_nodes)) (omega (arith, F.far_nodes))).0)))
+        (λ (e : has m q ≡ false). rw e (S.lasts q l ∙ ap found (sym (set_outside (rule_of far_all) m n q near far e).0)))
         (bool_cases (has m q))
 
     set_firsts : (q : ℕ) → q < 64 → cond (has m q && not (option_is_some (N.last q))) (some (farIn far_all N N.size)) (N.first q) ≡ found (at_qubit x.far q)
     set_firsts q l = ⊎_elim
         (λ (e : has m q ≡ true). rw e (new (present (at_qubit near q)) refl
-        ∙ ap found (sym (set_entries (rule_if far_all) (steady_rule far_all) m n q near far e (omega (arith, F.near_nodes)) (omega (arith, F.far_nodes))).1)))
-        (λ (e : has m q ≡ false). rw e (S.firsts q l ∙ ap found (sym (set_outside (rule_if far_all) m n q near far e).1)))
+        ∙ ap found (sym (set_entries (rule_of far_all) (steady_rule far_all) m n q near far e (omega (arith, F.near_nodes)) (omega (arith, F.far_nodes))).1)))
+        (λ (e : has m q ≡ false). rw e (S.firsts q l ∙ ap found (sym (set_outside (rule_of far_all) m n q near far e).1)))
         (bool_cases (has m q))
       where
         known : option_is_some (N.last q) ≡ present (at_qubit near q)
         known = ap option_is_some (S.lasts q l) ∙ found_some (at_qubit near q)
 
-        fresh : (b : Bool) → some (farIn b N N.size) ≡ found (or_else (rule_if b near far) n)
+        fresh : (b : Bool) → some (farIn b N N.size) ≡ found (or_else (rule_of b near far) n)
         fresh true = (λ i. some (or (S.first_all_lem i) (S.size i))) ∙ found-or far.all.0 n F.low
         fresh false = (λ i. some (or (S.last_all_lem i) (S.size i))) ∙ found-or near.all.0 n F.low
 
         new : (b : Bool) → present (at_qubit near q) ≡ b
-            → cond (not (option_is_some (N.last q))) (some (farIn far_all N N.size)) (N.first q) ≡ found (far_entry (rule_if far_all) near far n q)
+            → cond (not (option_is_some (N.last q))) (some (farIn far_all N N.size)) (N.first q) ≡ found (far_entry (rule_of far_all) near far n q)
         new true e = rw (known ∙ e, e) (S.firsts q l)
         new false e = rw (known ∙ e, e) (fresh far_all)
 
     set_heads : (u : ℕ) → (N.head u || (eqb u N.size && not (any 64 (λ q. has m q && option_is_some (sourceIn N q))))) ≡ get_or x.far.block u false
     unfolding link_set
     set_heads u = (λ i. S.heads u i || (eqb u (S.size i) && not (set_pointed i))) ∙ go (is_empty x.others)
-        ∙ ap (λ (b : List Bool). get_or (cond (is_empty x.others) (set b n true) b) u false) (sym (link_all_lem n (rule_if far_all) (qubits m) began).2)
+        ∙ ap (λ (b : List Bool). get_or (cond (is_empty x.others) (set b n true) b) u false) (sym (link_all_lem n (rule_of far_all) (qubits m) began).2)
       where
         go : (b : Bool) → (get_or far.block u false || (eqb u n && not (not b))) ≡ get_or (cond b (set far.block n true) far.block) u false
         go true = block_joins far.block n u (omega (arith, F.far-block, F.low))
@@ -343,7 +343,7 @@ module _ (n : ℕ) (E : ℕ → ℕ → Bool) (near far : End) (N : Net) (S : Se
     set_tails : (u : ℕ) → ((eqb u N.size && any 64 (has m)) || (N.tail u && not (any 64 (λ q. has m q && is (sourceIn N q) u)))) ≡ get_or x.near.block u false
     unfolding link_set
     set_tails u = (λ i. (eqb u (S.size i) && has_some m i) || (S.tails u i && not (sources i)))
-        ∙ sym (link-block n (rule_if far_all) (qubits m) began once F.low F.near-block source_low u)
+        ∙ sym (link-block n (rule_of far_all) (qubits m) began once F.low F.near_block source_low u)
       where
         sources : any 64 (λ q. has m q && is (sourceIn N q) u) ≡ any_of (λ q. is_at (source near q) u) (qubits m)
         sources = any_ext 64 _ _ (λ q l. ap (λ (b : Bool). has m q && b) (ap (λ (o : Option ℕ). is o u) (source_is q l) ∙ found-is (source near q) u))
@@ -356,8 +356,8 @@ module _ (n : ℕ) (E : ℕ → ℕ → Bool) (near far : End) (N : Net) (S : Se
       edges = λ a b. λ i. S.edges a b i || (eqb b (S.size i) && set_others a i);
       lasts = set_lasts;
       firsts = set_firsts;
-      last_all_lem = S.last_all_lem ∙ ap (λ (v : _). found v.0) (sym (link_all_lem n (rule_if far_all) (qubits m) began).0);
-      first_all_lem = S.first_all_lem ∙ ap (λ (v : _). found v.0) (sym (link_all_lem n (rule_if far_all) (qubits m) began).1);
+      last_all_lem = S.last_all_lem ∙ ap (λ (v : _). found v.0) (sym (link_all_lem n (rule_of far_all) (qubits m) began).0);
+      first_all_lem = S.first_all_lem ∙ ap (λ (v : _). found v.0) (sym (link_all_lem n (rule_of far_all) (qubits m) began).1);
       tails = set_tails;
       heads = set_heads;
     }
@@ -385,14 +385,14 @@ module _ (n : ℕ) (E : ℕ → ℕ → Bool) (near far : End) (N : Net) (S : Se
   far_known : (q : ℕ) → q < 64 → option_is_some (N.first q) ≡ present (at_qubit far q)
   far_known q l = ap option_is_some (S.firsts q l) ∙ found_some (at_qubit far q)
 
-  near-any : any 64 (λ q. option_is_some (N.last q)) ≡ any_of present near.node
-  near-any = any_ext 64 _ _ near_known ∙ sym (any_list present near.node absent 64 F.near_nodes)
+  near_any : any 64 (λ q. option_is_some (N.last q)) ≡ any_of present near.node
+  near_any = any_ext 64 _ _ near_known ∙ sym (any_list present near.node absent 64 F.near_nodes)
 
   far-any : any 64 (λ q. option_is_some (N.first q)) ≡ any_of present far.node
   far-any = any_ext 64 _ _ far_known ∙ sym (any_list present far.node absent 64 F.far_nodes)
 
   no_qubits-is : no_qubits N ≡ both_empty
-  no_qubits-is = λ i. not (near-any i) && not (far-any i)
+  no_qubits-is = λ i. not (near_any i) && not (far-any i)
 
   near_none : both_empty ≡ true → (q : ℕ) → q < 64 → present (at_qubit near q) ≡ false
   near_none e q l = any_none 64 (λ q. present (at_qubit near q)) (sym (any_list present near.node absent 64 F.near_nodes) ∙ not-flip _ (and_l (no_qubit near) (no_qubit far) e)) q l
@@ -479,7 +479,7 @@ take_by All = every
 take_by (Set m) = these (has m)
 
 pub link_sees : (far_all : Bool) (k : InvolvedQubits) (n : ℕ) (E : ℕ → ℕ → Bool) (near far : End) (N : Net) → Sees n E near far N → Fits n near far
-    → let x = link_by k (rule_if far_all) n near far in Sees (n + 1) (joined_edges n E x.others) x.near x.far (back far_all N (take_by k))
+    → let x = link_by k (rule_of far_all) n near far in Sees (n + 1) (joined_edges n E x.others) x.near x.far (back far_all N (take_by k))
 link_sees far_all None n E near far N S F = none_sees n E near far N S F
 link_sees far_all All n E near far N S F = all_sees n E near far N S F
 link_sees far_all (Set m) n E near far N S F = set_sees n E near far N S F far_all m

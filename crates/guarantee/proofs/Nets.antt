@@ -123,7 +123,7 @@ put v t f u = cond (eqb u v) t (f u)
 abbrev pub source : Net → ℕ → Option ℕ
 source g q = or_else (g.last q) g.last_all
 
--- what a new qubit gets at the other end: "last_all, or v if that is absent" (far_all false), or first_all instead (far_all true)
+-- what a new qubit gets at the other end: "lastAll, or v if that is absent" (far_all false), or first_all instead (far_all true)
 abbrev pub or : Option ℕ → ℕ → ℕ
 or none v = v
 or (some a) v = a

@@ -9,10 +9,8 @@ use Rattle.graph.specs.declared.NodeIndex.{NodeIndex}
 use Rattle.graph.specs.declared.CircuitDag.{CircuitDag}
 use Rattle.insertion.specs.declared.Answer.TheVariants.{Node, Refused}
 use Rattle.graph.specs.Dag.{absent, empty, size}
-use Rattle.links.specs.Links.{qubits}
-use Rattle.insertion.specs.declared.LoadingRule.{LoadingRule}
-use Rattle.insertion.specs.declared.LoadingRule.TheVariants.{NearAll, FarAll}
-use Rattle.insertion.specs.Limits.{rule_of, insert_as, insert_by}
+use Rattle.links.specs.Links.{qubits, LoadingRule, NearAll, FarAll, rule_of}
+use Rattle.insertion.specs.Limits.{insert_as, insert_by}
 use Rattle.insertion.specs.Calls.{Call, built, all_by, final_by}
 use Rattle.walk.specs.declared.BlockCount.TheVariants.{Blocks, Refused as NotWalked}
 use Rattle.walk.specs.Blocks.{block_of_step, whole_walk}

@@ -29,7 +29,7 @@ use Rattle.walk.specs.declared.BlockCount.{BlockCount}
 use Rattle.walk.specs.declared.BlockCount.TheVariants.{Blocks, Refused as NotWalked}
 use Rattle.graph.specs.declared.CircuitDag.{CircuitDag}
 use Rattle.graph.specs.Soundness.{sound}
-use Rattle.insertion.specs.declared.LoadingRule.{LoadingRule}
+use Rattle.links.specs.Links.{LoadingRule}
 use Rattle.insertion.specs.Limits.{insert_by}
 use Rattle.walk.specs.Blocks.{Stepped, Walked, next}
 use Rattle.host.specs.declared.HostAnswer.{HostAnswer}

@@ -2,7 +2,7 @@
 // function returned would be copied once more, a tenth of the instructions of a load of 64 records.
 ghost use Rattle.std.specs.Prelude.{◌≡◌};
 ghost use Rattle.graph.specs.Dag.{empty};
-ghost use Rattle.insertion.specs.declared.LoadingRule.TheVariants.{NearAll, FarAll};
+ghost use Rattle.links.specs.Links.{NearAll, FarAll};
 ghost use Rattle.insertion.specs.Load.{load_by, load};
 ghost use Rattle.host.specs.Answers.{graph_loaded, inserted_into};
 ghost use Rattle.host.specs.Marks.{host_of, host_sound};
@@ -12,7 +12,7 @@ use crate::crossing::{dag_of, host_dag, is_dag};
 use crate::{HostDag, HostGraph};
 use file::Refusal;
 use graph::CircuitDag;
-use insertion::LoadingRule;
+use links::LoadingRule;
 
 #[unsafe(no_mangle)]
 pub extern "C" fn sawhekonu_new() -> HostDag
@@ -26,7 +26,7 @@ pub extern "C" fn sawhekonu_new() -> HostDag
 pub extern "C" fn sawhekonu_load(file: &[u8]) -> HostGraph
     ensures { result ≡ graph_loaded (load file.now) }
 {
-    let x = insertion::load_by(LoadingRule::NearAll, file);
+    let x = insertion::load_by(links::NEAR_ALL, file);
     let graph = host_dag(x.graph);
     let answer = x.answer;
     HostGraph {
@@ -39,7 +39,7 @@ pub extern "C" fn sawhekonu_load(file: &[u8]) -> HostGraph
 pub extern "C" fn sawhekonu_load_both_ends(file: &[u8]) -> HostGraph
     ensures { result ≡ graph_loaded (load_by FarAll file.now) }
 {
-    let x = insertion::load_by(LoadingRule::FarAll, file);
+    let x = insertion::load_by(links::FAR_ALL, file);
     let graph = host_dag(x.graph);
     let answer = x.answer;
     HostGraph {
@@ -71,14 +71,14 @@ fn insert_record(rule: LoadingRule, dag: HostDag, part: &[u8]) -> HostGraph
 pub extern "C" fn sawhekonu_insert(dag: HostDag, part: &[u8]) -> HostGraph
     ensures { result ≡ inserted_into NearAll dag part.now }
 {
-    insert_record(LoadingRule::NearAll, dag, part)
+    insert_record(links::NEAR_ALL, dag, part)
 }
 
 #[unsafe(no_mangle)]
 pub extern "C" fn sawhekonu_insert_both_ends(dag: HostDag, part: &[u8]) -> HostGraph
     ensures { result ≡ inserted_into FarAll dag part.now }
 {
-    insert_record(LoadingRule::FarAll, dag, part)
+    insert_record(links::FAR_ALL, dag, part)
 }
 
 #[unsafe(no_mangle)]

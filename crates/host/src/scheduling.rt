@@ -1,6 +1,6 @@
 // From a circuit file to its block numbers.
 ghost use Rattle.std.specs.Prelude.{◌≡◌, ℕ};
-ghost use Rattle.insertion.specs.declared.LoadingRule.TheVariants.{NearAll, FarAll};
+ghost use Rattle.links.specs.Links.{NearAll, FarAll};
 ghost use Rattle.schedule.specs.Schedule.{schedule_by, schedule, Condition, Scheduled};
 ghost use Rattle.host.specs.Answers.{accepts, walked};
 

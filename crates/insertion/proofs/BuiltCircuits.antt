@@ -10,16 +10,13 @@ use Rattle.file.specs.declared.FileCheck.TheVariants.{Sound, Refused as BadFile}
 use Rattle.graph.specs.declared.CircuitDag.{CircuitDag}
 use Rattle.graph.specs.Dag.{empty}
 use Rattle.queries.proofs.CircuitTheorems.{circuit_whole, circuit_in_order}
-use Rattle.links.specs.Links.{FarRule, near_all}
-use Rattle.insertion.specs.declared.LoadingRule.{LoadingRule}
-use Rattle.insertion.specs.declared.LoadingRule.TheVariants.{NearAll}
-use Rattle.links.proofs.LinkLaws.{NamesAll}
-use Rattle.insertion.proofs.RuleLaws.{names_rule}
+use Rattle.links.specs.Links.{FarRule, near_all, LoadingRule, NearAll, rule_of}
+use Rattle.links.proofs.LinkLaws.{NamesAll, names_all}
 use Rattle.insertion.specs.declared.Answer.{Answer}
 use Rattle.insertion.specs.declared.Answer.TheVariants.{Node, Refused}
 use Rattle.insertion.specs.declared.Inserted.{Inserted}
 use Rattle.insertion.specs.declared.Loaded.{Loaded}
-use Rattle.insertion.specs.Limits.{rule_of, insert_as}
+use Rattle.insertion.specs.Limits.{insert_as}
 use Rattle.insertion.specs.Load.{not_loaded, insert_records, load_checked, load_by}
 use Rattle.insertion.specs.Conversion.{broken, insertion_order, convert, convert_checked, from_circuit}
 use Rattle.insertion.specs.Circuits.{WholeInOrder, CircuitsBuilt}
@@ -49,14 +46,14 @@ module _ (s : List ℕ) where
     where
       checked : (c : FileCheck) → Safe false (load_checked (rule_of rule) c s).graph
       checked (BadFile r) = safe_empty
-      checked Sound = safe_records (rule_of rule) (names_rule rule) (up_to (count_of s)) empty safe_empty
+      checked Sound = safe_records (rule_of rule) (names_all rule) (up_to (count_of s)) empty safe_empty
 
   safe_conversion : Safe false (from_circuit s).graph
   unfolding from_circuit
   safe_conversion = checked (check_file s)
     where
       listed : (l : List ℕ) → Safe false (convert s l).graph
-      listed [] = safe_records near_all (names_rule NearAll) (insertion_order s) empty safe_empty
+      listed [] = safe_records near_all (names_all false) (insertion_order s) empty safe_empty
       listed (i ∷ l) = safe_empty
 
       checked : (c : FileCheck) → Safe false (convert_checked c s).graph

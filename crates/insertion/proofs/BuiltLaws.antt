@@ -25,16 +25,14 @@ use Rattle.graph.proofs.ListLaws.{all_same}
 use Rattle.file.proofs.BoolLaws.{clash_bool, or_l, or_r}
 use Rattle.graph.proofs.SoundnessLaws.{NamesFit, RegistersFit, registers_told, told_sound}
 use Rattle.insertion.specs.declared.Answer.TheVariants.{Refused}
-use Rattle.links.specs.Links.{Linked, FarRule, link}
-use Rattle.insertion.specs.declared.LoadingRule.{LoadingRule}
+use Rattle.links.specs.Links.{Linked, FarRule, link, LoadingRule, rule_of}
 use Rattle.registers.specs.Registers.{with_entries}
 use Rattle.insertion.specs.Insertion.{facing, place_after, linked, registered, commutes, with_commuting, extended, grown}
 use Rattle.registers.specs.Registers.{Maps}
-use Rattle.insertion.specs.Limits.{rule_of, insert_as, insert_by}
+use Rattle.insertion.specs.Limits.{insert_as, insert_by}
 use Rattle.insertion.specs.Calls.{Call, graph_after, built}
 use Rattle.insertion.specs.Built.{SoundBuilt}
-use Rattle.links.proofs.LinkLaws.{NamesAll, others_distinct}
-use Rattle.insertion.proofs.RuleLaws.{names_rule}
+use Rattle.links.proofs.LinkLaws.{NamesAll, others_distinct, names_all}
 use Rattle.registers.proofs.RegisterLaws.{fits_none}
 use Rattle.insertion.proofs.SafeEnds.{Side, Joins, named-old, near_side, far_side, joins_by}
 use Rattle.insertion.proofs.SafeEdges.{between, lies, link_rises, EdgesSafe, Meets, meets_below, near_meets, far_meets, edges_more}
@@ -51,7 +49,7 @@ pub record Safe (b : Bool) (h : CircuitDag) : Type 0 where
   pub near : Side (size h) (operates_at h.nodes) (Meets b h.edges) h.last h.first
   pub far : Side (size h) (operates_at h.nodes) (Meets (not b) h.edges) h.first h.last
   pub commuting : CommutingSafe (size h) h.commuting
-  pub near-registers : RegistersSafe (size h) h.last_registers
+  pub near_registers : RegistersSafe (size h) h.last_registers
   pub far-registers : RegistersSafe (size h) h.first_registers
 
 -- "Front insertion is the mirror": the graph seen from its other end
@@ -71,8 +69,8 @@ mirror b h H = record {
   near = H.far;
   far = subst (λ (c : Bool). Side (size h) (operates_at h.nodes) (Meets c h.edges) h.last h.first) (sym (not-not b)) H.near;
   commuting = H.commuting;
-  near-registers = H.far-registers;
-  far-registers = H.near-registers;
+  near_registers = H.far-registers;
+  far-registers = H.near_registers;
 }
   where
     lies_mirror : (b : Bool) (near far : ℕ) (p : ℤ) → lies (not b) far near p ≡ lies b near far p
@@ -111,7 +109,7 @@ safe_sound g G = told_sound g record {
   node-count = G.nodes.count;
   edge_count = G.edges.count;
   first_count = G.far-registers.fits.room;
-  last_count = G.near-registers.fits.room;
+  last_count = G.near_registers.fits.room;
   commuting_count = omega (arith, G.commuting.few, G.nodes.count);
   ends = G.nodes.ends;
   from-below = λ i l. (G.edges.each i l).from.below;
@@ -129,7 +127,7 @@ safe_sound g G = told_sound g record {
   commuting_below = G.commuting.below;
   commuting_ascends_lem = G.commuting.ascends;
   first_registers = registers_fit (size g) g.first_registers G.far-registers;
-  last_registers = registers_fit (size g) g.last_registers G.near-registers;
+  last_registers = registers_fit (size g) g.last_registers G.near_registers;
   place_within_lem = λ v l. place_between g (place_of g v) ∙ G.nodes.within v l;
   places_distinct = G.nodes.apart;
 }
@@ -181,7 +179,7 @@ safe_empty = record {
     below = λ i l. absurd (omega arith);
     ascends = λ i j a l. absurd (omega arith);
   };
-  near-registers = no_registers_lem;
+  near_registers = no_registers_lem;
   far-registers = no_registers_lem;
 }
 
@@ -248,7 +246,7 @@ module _ (rule : FarRule) (names : NamesAll rule) (b : Bool) (h : CircuitDag) (s
   safe_extended : Safe b h'
   safe_extended =
       let below : (c : Bool) (u : ℕ) → Meets c h.edges u → u < n = meets_below n op (place_at h.nodes) h.edges H.edges in
-      let registers = registers_more n s h.last_registers h.first_registers H.near-registers H.far-registers A.near A.far in
+      let registers = registers_more n s h.last_registers h.first_registers H.near_registers H.far-registers A.near A.far in
       record {
         nodes = nodes_more b h.nodes h.backs h.fronts (kind s) (qubit_form s) (label s) H.nodes A.room (record_kind s A.keeps);
         edges = more_edges;
@@ -257,7 +255,7 @@ module _ (rule : FarRule) (names : NamesAll rule) (b : Bool) (h : CircuitDag) (s
         far = far_side n op op' new same here h.last h.first x (Meets b h.edges) (Meets (not b) h.edges) (Meets b h'.edges) (Meets (not b) h'.edges)
             H.near H.far joins (below b) (below (not b)) (near_meets n x.others h.edges in_from in_to b) (far_meets n x.others h.edges in_from in_to b);
         commuting = commuting_more h (commutes s) H.commuting A.room;
-        near-registers = registers.0;
+        near_registers = registers.0;
         far-registers = registers.1;
       }
 
@@ -305,7 +303,7 @@ unfolding insert_by
 insert-sound rule g s h = rw h refl
 
 pub safe_insert : (rule : LoadingRule) (g : CircuitDag) (s : List ℕ) → Safe false g → Safe false (insert_by rule g s).graph
-safe_insert rule g s G = rw (insert-sound rule g s (safe_sound g G)) (safe_as (rule_of rule) 0 g s (names_rule rule) G)
+safe_insert rule g s G = rw (insert-sound rule g s (safe_sound g G)) (safe_as (rule_of rule) 0 g s (names_all rule) G)
 
 safe_after : (l : List Call) (g : CircuitDag) → Safe false g → Safe false (graph_after g l)
 unfolding graph_after

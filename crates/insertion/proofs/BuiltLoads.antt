@@ -27,10 +27,8 @@ use Rattle.insertion.specs.declared.Answer.TheVariants.{Node, Refused}
 use Rattle.insertion.specs.declared.Inserted.{Inserted}
 use Rattle.file.specs.declared.Outcome.TheVariants.{Done}
 use Rattle.insertion.specs.declared.Loaded.{Loaded}
-use Rattle.links.specs.Links.{FarRule}
-use Rattle.insertion.specs.declared.LoadingRule.{LoadingRule}
-use Rattle.insertion.specs.declared.LoadingRule.TheVariants.{NearAll}
-use Rattle.insertion.specs.Limits.{accepts, rule_of, insert_as, insert_by, refused}
+use Rattle.links.specs.Links.{FarRule, LoadingRule, NearAll, rule_of}
+use Rattle.insertion.specs.Limits.{accepts, insert_as, insert_by, refused}
 use Rattle.insertion.specs.Load.{not_loaded, insert_records, load_checked, load_by}
 use Rattle.insertion.specs.Calls.{graph_after, all_by, final_by}
 use Rattle.insertion.specs.Conversion.{broken, insertion_order, convert, convert_checked, from_circuit}

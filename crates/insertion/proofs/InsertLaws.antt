@@ -22,8 +22,7 @@ use Rattle.graph.proofs.SoundnessLaws.{Sound, sound_told, sound_clauses, all_lef
 use Rattle.file.specs.declared.Outcome.{Outcome}
 use Rattle.file.specs.declared.Outcome.TheVariants.{Done, Refused}
 use Rattle.links.specs.declared.LinkedRecords.{LinkedRecords}
-use Rattle.links.specs.Links.{FarRule}
-use Rattle.insertion.specs.declared.LoadingRule.{LoadingRule}
+use Rattle.links.specs.Links.{FarRule, LoadingRule, rule_of}
 use Rattle.links.specs.Linking.{links_fit, links_stopped, link_record, links_kept, link_node}
 use Rattle.links.proofs.LinkingLaws.{when_done}
 use Rattle.registers.specs.declared.Registered.{Registered}
@@ -32,7 +31,7 @@ use Rattle.insertion.specs.declared.Answer.TheVariants.{Node}
 use Rattle.insertion.specs.declared.Inserted.{Inserted}
 use Rattle.insertion.specs.declared.nodes.NodeLists.{NodeLists}
 use Rattle.insertion.specs.Insertion.{commutes, grown}
-use Rattle.insertion.specs.Limits.{refused, edges_pass, rule_of, insert_as, insert_by}
+use Rattle.insertion.specs.Limits.{refused, edges_pass, insert_as, insert_by}
 use Rattle.insertion.specs.Parts.{node_lists, node_after, assembled}
 use Rattle.insertion.proofs.CaseLaws.{nodes, edges, entries, taken_inserts, cause_refuses}
 use Rattle.insertion.proofs.PartLaws.{links_of, maps_of, not_both, links_full, links_over, links-grown, maps-pass}
@@ -217,10 +216,9 @@ module _ (rule : FarRule) (i : ℕ) (g : CircuitDag) (h : sound g ≡ true) (z :
             let p : a ≡ assembled (node_after b (node_lists g)) (once rule i g b keeps) (register_record i g.first_registers g.last_registers b (node (size g))) = ea ∙ (λ j. assembled (en j) (is-once j) (er j)) ∙ ap (λ (y : NodeLists). assembled (node_after b y) (once rule i g b keeps) (register_record i g.first_registers g.last_registers b (node (size g)))) el in
             ap (λ (y : CircuitDag). record { answer = Node (node (size g)); graph = y }) p ∙ w
 
-pub sound_inserts : (rule : LoadingRule) (far : FarRule) → far ≡ rule_of rule → (g : CircuitDag) (bytes : List ℕ) → sound g ≡ true
-    → insert_as far 0 g bytes ≡ insert_by rule g bytes
+pub sound_inserts : (rule : LoadingRule) (g : CircuitDag) (bytes : List ℕ) → sound g ≡ true → insert_as (rule_of rule) 0 g bytes ≡ insert_by rule g bytes
 unfolding insert_by
-sound_inserts rule far e g bytes h = rw h (ap (λ (r : FarRule). insert_as r 0 g bytes) e)
+sound_inserts rule g bytes h = rw h refl
 
 pub unsound_refuses : (rule : LoadingRule) (g : CircuitDag) (bytes : List ℕ) → sound g ≡ false → refused Unsound g ≡ insert_by rule g bytes
 unfolding insert_by

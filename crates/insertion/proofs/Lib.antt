@@ -1,4 +1,3 @@
-pub mod RuleLaws
 pub mod PlaceLaws
 pub mod NodeLaws
 pub mod CaseLaws

@@ -19,13 +19,11 @@ use Rattle.file.proofs.PutLaws.{length-count_from}
 use Rattle.graph.proofs.ListLaws.{at_all}
 use Rattle.file.specs.declared.Outcome.TheVariants.{Done, Refused}
 use Rattle.links.specs.declared.LinkedRecords.{LinkedRecords}
-use Rattle.links.specs.Links.{FarRule}
-use Rattle.insertion.specs.declared.LoadingRule.{LoadingRule}
+use Rattle.links.specs.Links.{FarRule, LoadingRule, rule_of}
 use Rattle.links.specs.Linking.{no_links, link_records}
 use Rattle.registers.specs.declared.Registered.{Registered}
 use Rattle.registers.specs.declared.RegisteredRecords.{RegisteredRecords}
 use Rattle.registers.specs.Registers.{enter_records, register_records}
-use Rattle.insertion.specs.Limits.{rule_of}
 use Rattle.insertion.specs.Load.{not_loaded, insert_records, load_by}
 use Rattle.insertion.specs.Parts.{node_lists, nodes_after, assembled}
 use Rattle.insertion.proofs.PartLaws.{Together, together}
@@ -95,9 +93,9 @@ module _ (file order : List ℕ) (n : ℕ) (e : order ≡ up_to 512) (m : n ≡ 
   pub numbers-below : all_of (λ i. ltb i (count_of file)) (take (n - 0) (drop 0 order)) ≡ true
   numbers-below = rw (numbers, ← m) (all_below n)
 
-  pub whole : (rule : LoadingRule) (far : FarRule) → far ≡ rule_of rule → insert_records far file empty (take (n - 0) (drop 0 order)) ≡ load_by rule file
+  pub whole : (rule : LoadingRule) → insert_records (rule_of rule) file empty (take (n - 0) (drop 0 order)) ≡ load_by rule file
   unfolding load_by
-  whole rule far e = rw (numbers, m, good) (ap (λ (r : FarRule). insert_records r file empty (up_to (count_of file))) e)
+  whole rule = rw (numbers, m, good) refl
 
 -- ---- `file_order`
 

@@ -127,14 +127,14 @@ Named n op new u = ((u ≡ n) × (new ≡ true)) ⊎ Old n op u
 -- what linking the new node n does to the ends
 pub record Joins (n : ℕ) (op : ℕ → Bool) (new : Bool) (near far : End) (x : Linked) : Type 0 where
   pub near_nodes : length x.near.node ≡ 64
-  pub near-blocks : length x.near.block ≡ 512
+  pub near_blocks : length x.near.block ≡ 512
   pub far_nodes : length x.far.node ≡ 64
   pub far-blocks : length x.far.block ≡ 512
-  pub near-entry : (q : ℕ) → present (at_qubit x.near q) ≡ true → Named n op new (at_qubit x.near q)
+  pub near_entry : (q : ℕ) → present (at_qubit x.near q) ≡ true → Named n op new (at_qubit x.near q)
   pub near_all_lem : present x.near.all.0 ≡ true → Named n op new x.near.all.0
   pub far-entry : (q : ℕ) → present (at_qubit x.far q) ≡ true → Named n op new (at_qubit x.far q)
   pub far_all_lem : present x.far.all.0 ≡ true → Named n op new x.far.all.0
-  pub near-member : (u : ℕ) → get_or x.near.block u false ≡ true → ((u ≡ n) × (new ≡ true)) ⊎ ((get_or near.block u false ≡ true) × (member u x.others ≡ false))
+  pub near_member : (u : ℕ) → get_or x.near.block u false ≡ true → ((u ≡ n) × (new ≡ true)) ⊎ ((get_or near.block u false ≡ true) × (member u x.others ≡ false))
   pub far-member : (u : ℕ) → get_or x.far.block u false ≡ true → ((u ≡ n) × (new ≡ true) × (is_empty x.others ≡ true)) ⊎ (get_or far.block u false ≡ true)
   pub others : (w : ℕ) → member w x.others ≡ true → Old n op w
   pub joined : is_empty x.others ≡ false → new ≡ true
@@ -155,8 +155,8 @@ module _ (n : ℕ) (op op' : ℕ → Bool) (new : Bool) (same : (u : ℕ) → u 
       (out_below : (u : ℕ) → Out u → u < n) (in-below : (u : ℕ) → In u → u < n)
       (out_cases : (u : ℕ) → Out' u → Out u ⊎ (member u x.others ≡ true))
       (in-cases : (u : ℕ) → In' u → In u ⊎ ((u ≡ n) × (is_empty x.others ≡ false))) where
-    near-free : (u : ℕ) → get_or x.near.block u false ≡ true → Out' u → ⊥
-    near-free u m o = ⊎_elim
+    near_free : (u : ℕ) → get_or x.near.block u false ≡ true → Out' u → ⊥
+    near_free u m o = ⊎_elim
         (λ (r : (u ≡ n) × (new ≡ true)). ⊎_elim
         (λ (p : Out u). omega (arith, out_below u p, r.0))
         (λ (p : member u x.others ≡ true). omega (arith, (J.others u p).below, r.0))
@@ -165,7 +165,7 @@ module _ (n : ℕ) (op op' : ℕ → Bool) (new : Bool) (same : (u : ℕ) → u 
         (λ (p : Out u). S.free u r.0 p)
         (λ (p : member u x.others ≡ true). clash_bool p r.1)
         (out_cases u o))
-        (J.near-member u m)
+        (J.near_member u m)
 
     far-free : (u : ℕ) → get_or x.far.block u false ≡ true → In' u → ⊥
     far-free u m i = ⊎_elim
@@ -182,14 +182,14 @@ module _ (n : ℕ) (op op' : ℕ → Bool) (new : Bool) (same : (u : ℕ) → u 
     pub near_side : Side (n + 1) op' Out' x.near x.far
     near_side = record {
       nodes = J.near_nodes;
-      blocks = J.near-blocks;
-      entry = λ q p. named-old _ (J.near-entry q p);
+      blocks = J.near_blocks;
+      entry = λ q p. named-old _ (J.near_entry q p);
       all = λ p. named-old _ (J.near_all_lem p);
       member = λ u m. named-old u (⊎_elim
           (λ (r : (u ≡ n) × (new ≡ true)). inl r)
           (λ (r : (get_or near.block u false ≡ true) × (member u x.others ≡ false)). inr (S.member u r.0))
-          (J.near-member u m));
-      free = near-free;
+          (J.near_member u m));
+      free = near_free;
       entry_some = J.near_some;
       all_some = J.near_all_some;
     }
@@ -216,14 +216,14 @@ module _ (n : ℕ) (op : ℕ → Bool) (new : Bool) (near far : End) (Out In : �
   unfolding any_of
   joins_none = record {
     near_nodes = S.nodes;
-    near-blocks = S.blocks;
+    near_blocks = S.blocks;
     far_nodes = T.nodes;
     far-blocks = T.blocks;
-    near-entry = λ q p. inr (S.entry q p);
+    near_entry = λ q p. inr (S.entry q p);
     near_all_lem = λ p. inr (S.all p);
     far-entry = λ q p. inr (T.entry q p);
     far_all_lem = λ p. inr (T.all p);
-    near-member = λ u m. inr (m, refl);
+    near_member = λ u m. inr (m, refl);
     far-member = λ u m. inr m;
     others = λ w m. absurd (clash_bool m refl);
     joined = λ e. absurd (clash_bool refl e);
@@ -307,14 +307,14 @@ module _ (n : ℕ) (op : ℕ → Bool) (near far : End) (Out In : ℕ → Type 0
   joins_as : (e f : Bool) → any_of (λ b. b) far.block ≡ f → Joins n op true near far (all_as e f n near far)
   joins_as e f h = record {
     near_nodes = near_long e;
-    near-blocks = length-set (replicate 512 false) n true ∙ length-replicate 512 false;
+    near_blocks = length-set (replicate 512 false) n true ∙ length-replicate 512 false;
     far_nodes = far_long e;
     far-blocks = block_long f;
-    near-entry = λ q p. near-named e q p;
+    near_entry = λ q p. near_named e q p;
     near_all_lem = λ p. inl (refl, refl);
     far-entry = λ q p. far-named e q p;
     far_all_lem = else_cases Name far.all.0 n (λ p. inr (T.all p)) (λ p. inl (refl, refl));
-    near-member = λ u m. ⊎_elim (λ (a : u ≡ n). inl (a, refl)) (λ (a : get_or (replicate 512 false) u false ≡ true). absurd (clash_bool a (all_same 512 u false))) (marked (replicate 512 false) n u m);
+    near_member = λ u m. ⊎_elim (λ (a : u ≡ n). inl (a, refl)) (λ (a : get_or (replicate 512 false) u false ≡ true). absurd (clash_bool a (all_same 512 u false))) (marked (replicate 512 false) n u m);
     far-member = far-new e f h;
     others = λ w m. (all_others e w m).0;
     joined = λ t. refl;
@@ -336,10 +336,10 @@ module _ (n : ℕ) (op : ℕ → Bool) (near far : End) (Out In : ℕ → Type 0
       block_long true = T.blocks
       block_long false = length-set far.block n true ∙ T.blocks
 
-      near-named : (e : Bool) (q : ℕ) → present (get_or (cond e (set near.node 0 n) (map (λ (u : ℕ). cond (present u) n u) near.node)) q absent) ≡ true
+      near_named : (e : Bool) (q : ℕ) → present (get_or (cond e (set near.node 0 n) (map (λ (u : ℕ). cond (present u) n u) near.node)) q absent) ≡ true
           → Name (get_or (cond e (set near.node 0 n) (map (λ (u : ℕ). cond (present u) n u) near.node)) q absent)
-      near-named true q p = stored near.node q 0 (S.entry q) p
-      near-named false q p = inl (turned near.node q p, refl)
+      near_named true q p = stored near.node q 0 (S.entry q) p
+      near_named false q p = inl (turned near.node q p, refl)
 
       far-named : (e : Bool) (q : ℕ) → present (get_or (cond e (set far.node 0 n) far.node) q absent) ≡ true → Name (get_or (cond e (set far.node 0 n) far.node) q absent)
       far-named true q p = stored far.node q 0 (T.entry q) p
@@ -359,36 +359,36 @@ module _ (n : ℕ) (op : ℕ → Bool) (near far : End) where
   -- after some qubits of a Set
   record Linking (x : Linked) : Type 0 where
     near_nodes : length x.near.node ≡ 64
-    near-blocks : length x.near.block ≡ 512
+    near_blocks : length x.near.block ≡ 512
     far_nodes : length x.far.node ≡ 64
     near_all_lem : x.near.all ≡ near.all
     far_all_lem : x.far.all ≡ far.all
     far-block : x.far.block ≡ far.block
-    near-entry : (q : ℕ) → present (at_qubit x.near q) ≡ true → (at_qubit x.near q ≡ n) ⊎ Stood (at_qubit x.near q)
+    near_entry : (q : ℕ) → present (at_qubit x.near q) ≡ true → (at_qubit x.near q ≡ n) ⊎ Stood (at_qubit x.near q)
     far-entry : (q : ℕ) → present (at_qubit x.far q) ≡ true → (at_qubit x.far q ≡ n) ⊎ Old n op (at_qubit x.far q)
     others : (w : ℕ) → member w x.others ≡ true → (w ≡ n) ⊎ Stood w
-    near-member : (u : ℕ) → get_or x.near.block u false ≡ true → (u ≡ n) ⊎ ((get_or near.block u false ≡ true) × (member u x.others ≡ false))
+    near_member : (u : ℕ) → get_or x.near.block u false ≡ true → (u ≡ n) ⊎ ((get_or near.block u false ≡ true) × (member u x.others ≡ false))
 
   module _ (rule : FarRule) (names : NamesAll rule) (Out In : ℕ → Type 0) (S : Side n op Out near far) (T : Side n op In far near) (low : n < 512) where
     begin : Linking (record { near = near; far = far; others = [] })
     unfolding any_of
     begin = record {
       near_nodes = S.nodes;
-      near-blocks = S.blocks;
+      near_blocks = S.blocks;
       far_nodes = T.nodes;
       near_all_lem = refl;
       far_all_lem = refl;
       far-block = refl;
-      near-entry = λ q p. inr (S.entry q p, S.entry_some q p);
+      near_entry = λ q p. inr (S.entry q p, S.entry_some q p);
       far-entry = λ q p. inr (T.entry q p);
       others = λ w m. absurd (clash_bool m refl);
-      near-member = λ u m. inr (m, refl);
+      near_member = λ u m. inr (m, refl);
     }
 
     module _ (x : Linked) (L : Linking x) (q : ℕ) where
-      -- "the source is last[q], else last_all"
+      -- "the source is last[q], else lastAll"
       source_stood : present (source x.near q) ≡ true → (source x.near q ≡ n) ⊎ Stood (source x.near q)
-      source_stood = else_cases (λ u. (u ≡ n) ⊎ Stood u) (at_qubit x.near q) x.near.all.0 (L.near-entry q)
+      source_stood = else_cases (λ u. (u ≡ n) ⊎ Stood u) (at_qubit x.near q) x.near.all.0 (L.near_entry q)
           (rw L.near_all_lem (λ (p : present near.all.0 ≡ true). inr (S.all p, S.all_some p)))
 
       abbrev taken : List Bool
@@ -396,8 +396,8 @@ module _ (n : ℕ) (op : ℕ → Bool) (near far : End) where
 
       taken_long : length taken ≡ 512
       taken_long = ⊎_elim
-          (λ (e : present (source x.near q) ≡ true). rw (e, length-set) L.near-blocks)
-          (λ (e : present (source x.near q) ≡ false). rw e L.near-blocks)
+          (λ (e : present (source x.near q) ≡ true). rw (e, length-set) L.near_blocks)
+          (λ (e : present (source x.near q) ≡ false). rw e L.near_blocks)
           (bool_cases (present (source x.near q)))
 
       -- the source is not in it
@@ -422,7 +422,7 @@ module _ (n : ℕ) (op : ℕ → Bool) (near far : End) where
           subst (λ (u : ℕ). Old n op u) (sym a) (T.all (subst (λ (u : ℕ). present u ≡ true) a p)))
           (names x.near x.far p)
 
-      -- "first[q] becomes last_all, or v if that is absent"
+      -- "first[q] becomes lastAll, or v if that is absent"
       far_stood : (e : Bool) (j : ℕ) → present (get_or (cond e x.far.node (set x.far.node q (or_else (rule x.near x.far) n))) j absent) ≡ true
           → (get_or (cond e x.far.node (set x.far.node q (or_else (rule x.near x.far) n))) j absent ≡ n) ⊎ Old n op (get_or (cond e x.far.node (set x.far.node q (or_else (rule x.near x.far) n))) j absent)
       far_stood true j p = L.far-entry j p
@@ -435,21 +435,21 @@ module _ (n : ℕ) (op : ℕ → Bool) (near far : End) where
       link_one_lem : Linking (link_one rule n q x)
       link_one_lem = record {
         near_nodes = length-set x.near.node q n ∙ L.near_nodes;
-        near-blocks = length-set taken n true ∙ taken_long;
+        near_blocks = length-set taken n true ∙ taken_long;
         far_nodes = far-node (present (at_qubit x.near q));
         near_all_lem = L.near_all_lem;
         far_all_lem = L.far_all_lem;
         far-block = L.far-block;
-        near-entry = λ j p. ⊎_elim
+        near_entry = λ j p. ⊎_elim
             (λ (e : get_or (set x.near.node q n) j absent ≡ n). inl e)
-            (λ (e : get_or (set x.near.node q n) j absent ≡ at_qubit x.near j). rw e (L.near-entry j (rw e at p)))
+            (λ (e : get_or (set x.near.node q n) j absent ≡ at_qubit x.near j). rw e (L.near_entry j (rw e at p)))
             (set_cases x.near.node q j n absent);
         far-entry = far_stood (present (at_qubit x.near q));
         others = λ w m. ⊎_elim
             (λ (r : (w ≡ source x.near q) × (present (source x.near q) ≡ true)). subst (λ (u : ℕ). (u ≡ n) ⊎ Stood u) (sym r.0) (source_stood r.1))
             (λ (a : member w x.others ≡ true). L.others w a)
             (add-member w (source x.near q) x.others m);
-        near-member = λ u m. ⊎_elim
+        near_member = λ u m. ⊎_elim
             (λ (a : u ≡ n). inl a)
             (λ (a : get_or taken u false ≡ true).
             let r = taken_told u a in
@@ -462,7 +462,7 @@ module _ (n : ℕ) (op : ℕ → Bool) (near far : End) where
                   (λ (y : member u x.others ≡ true). clash_bool y b.1)
                   (add-member u (source x.near q) x.others t)),
             ))
-            (L.near-member u r.0))
+            (L.near_member u r.0))
             (marked taken n u m);
       }
 
@@ -489,8 +489,8 @@ module _ (n : ℕ) (op : ℕ → Bool) (near far : End) where
       name_of : (u : ℕ) → (u ≡ n) ⊎ Old n op u → Named n op true u
       name_of u = ⊎_elim (λ (e : u ≡ n). inl (e, refl)) (λ (o : Old n op u). inr o)
 
-      near-name : (u : ℕ) → (u ≡ n) ⊎ Stood u → Named n op true u
-      near-name u = ⊎_elim (λ (e : u ≡ n). inl (e, refl)) (λ (o : Stood u). inr o.0)
+      near_name : (u : ℕ) → (u ≡ n) ⊎ Stood u → Named n op true u
+      near_name u = ⊎_elim (λ (e : u ≡ n). inl (e, refl)) (λ (o : Stood u). inr o.0)
 
       far-has_some : (e : Bool) → is_empty x.others ≡ e → Some (cond e (set x.far.block n true) x.far.block)
       far-has_some true h = (n, get_or-set_same x.far.block n true false (rw L.far-block (omega (arith, T.blocks))))
@@ -511,14 +511,14 @@ module _ (n : ℕ) (op : ℕ → Bool) (near far : End) where
       join-far : Joins n op true near far (join_far n x)
       join-far = record {
         near_nodes = L.near_nodes;
-        near-blocks = L.near-blocks;
+        near_blocks = L.near_blocks;
         far_nodes = L.far_nodes;
         far-blocks = far_long (is_empty x.others);
-        near-entry = λ q p. near-name _ (L.near-entry q p);
+        near_entry = λ q p. near_name _ (L.near_entry q p);
         near_all_lem = rw L.near_all_lem (λ (p : present near.all.0 ≡ true). inr (S.all p));
         far-entry = λ q p. name_of _ (L.far-entry q p);
         far_all_lem = rw L.far_all_lem (λ (p : present far.all.0 ≡ true). inr (T.all p));
-        near-member = λ u m. ⊎_elim (λ (a : u ≡ n). inl (a, refl)) (λ (r : (get_or near.block u false ≡ true) × (member u x.others ≡ false)). inr r) (L.near-member u m);
+        near_member = λ u m. ⊎_elim (λ (a : u ≡ n). inl (a, refl)) (λ (r : (get_or near.block u false ≡ true) × (member u x.others ≡ false)). inr r) (L.near_member u m);
         far-member = far-join (is_empty x.others) refl;
         others = λ w m. (stood w m).0;
         joined = λ e. refl;

@@ -16,11 +16,10 @@ use Rattle.file.proofs.PairLaws.{no_record}
 use Rattle.file.proofs.TightLaws.{tight_file_lem}
 use Rattle.graph.specs.declared.CircuitDag.{CircuitDag}
 use Rattle.graph.specs.Dag.{empty}
-use Rattle.links.specs.Links.{FarRule, near_all}
-use Rattle.insertion.specs.declared.LoadingRule.{LoadingRule}
+use Rattle.links.specs.Links.{FarRule, near_all, LoadingRule, rule_of}
 use Rattle.queries.specs.Conversion.{definitions_first}
 use Rattle.insertion.specs.declared.Answer.TheVariants.{Node, Refused as NotInserted}
-use Rattle.insertion.specs.Limits.{rule_of, insert_as}
+use Rattle.insertion.specs.Limits.{insert_as}
 use Rattle.insertion.specs.Load.{not_loaded, insert_records, load_checked, load_by}
 use Rattle.insertion.specs.Conversion.{broken, insertion_order, convert, convert_checked, from_circuit}
 use Rattle.insertion.specs.Tight.{load_tight, convert_tight, SameLoads, SameRecords, SlackUnread}

@@ -29,7 +29,7 @@ use Rattle.links.proofs.LinkLaws.{low_present, qubits_in, link_one, add_present,
 use Rattle.insertion.specs.declared.Answer.TheVariants.{Node, Refused}
 use Rattle.insertion.specs.declared.Inserted.{Inserted}
 use Rattle.insertion.specs.declared.Loaded.{Loaded}
-use Rattle.insertion.specs.declared.LoadingRule.TheVariants.{NearAll, FarAll}
+use Rattle.links.specs.Links.{NearAll, FarAll}
 use Rattle.insertion.specs.Insertion.{facing, linked, registered, extended, grown_at, grown}
 use Rattle.insertion.specs.Limits.{accepts, edges_pass, insert_as, insert_by, insert_of}
 use Rattle.insertion.specs.Load.{not_loaded, insert_records, load_checked, load_by}

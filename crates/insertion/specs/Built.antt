@@ -1,4 +1,4 @@
--- Lists of insertions on the empty graph: for every list of record bytes, each in either way, with no condition at all, each graph on the way is
+-- Lists of insertions on the empty graph: for every list of record bytes and rules, with no condition at all, each graph on the way is
 -- sound, so that refusal 11 never comes on it. Each graph on the way is `built` of a first part of the list,
 -- so one statement on every list covers them. Then a load and a conversion against the list of their file's records. Assumes nothing.
 use Rattle.std.specs.Prelude.{◌≡◌, true, List, [], map, ℕ, ◌<◌, length, get_or, take}
@@ -13,9 +13,8 @@ use Rattle.insertion.specs.declared.Answer.TheVariants.{Refused}
 use Rattle.insertion.specs.declared.Inserted.{Inserted}
 use Rattle.insertion.specs.declared.Loaded.{Loaded}
 use Rattle.file.specs.declared.Outcome.TheVariants.{Done}
-use Rattle.insertion.specs.declared.LoadingRule.{LoadingRule}
-use Rattle.insertion.specs.declared.LoadingRule.TheVariants.{NearAll}
-use Rattle.insertion.specs.Limits.{accepts, rule_of, insert_as, insert_by}
+use Rattle.links.specs.Links.{LoadingRule, NearAll, rule_of}
+use Rattle.insertion.specs.Limits.{accepts, insert_as, insert_by}
 use Rattle.insertion.specs.Load.{not_loaded, load_by}
 use Rattle.insertion.specs.Calls.{Call, built, final_by}
 use Rattle.insertion.specs.Conversion.{broken, insertion_order, from_circuit}

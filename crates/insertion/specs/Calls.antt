@@ -1,12 +1,11 @@
--- Lists of insertions on the empty graph, each in document 01's way or in K6's. Assumes nothing.
+-- Lists of insertions on the empty graph, as demand 3 has them. Assumes nothing.
 use Rattle.std.specs.Prelude.{List, [], ◌∷◌, map, ℕ}
 use Rattle.graph.specs.declared.CircuitDag.{CircuitDag}
 use Rattle.graph.specs.Dag.{empty}
-use Rattle.insertion.specs.declared.LoadingRule.{LoadingRule}
-use Rattle.insertion.specs.declared.LoadingRule.TheVariants.{NearAll}
+use Rattle.links.specs.Links.{LoadingRule, NearAll}
 use Rattle.insertion.specs.Limits.{insert_by}
 
--- one insertion: its way, and its record's bytes
+-- one insertion: its rule, and its record's bytes
 pub record Call : Type 0 where
   pub rule : LoadingRule
   pub bytes : List ℕ
@@ -20,11 +19,11 @@ unfoldable pub graph_after : CircuitDag → List Call → CircuitDag
 graph_after g [] = g
 graph_after g (c ∷ l) = graph_after (insert_by c.rule g c.bytes).graph l
 
--- ".., the first the empty one"; nothing keeps a caller from mixing the two ways
+-- ".., the first the empty one"; nothing keeps a caller from mixing the two rules
 abbrev pub built : List Call → CircuitDag
 built l = graph_after empty l
 
--- insertions all in one way ..
+-- insertions all by one rule ..
 abbrev pub all_by : LoadingRule → List (List ℕ) → List Call
 all_by rule l = map (λ (s : List ℕ). record { rule = rule; bytes = s }) l
 

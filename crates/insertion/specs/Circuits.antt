@@ -8,7 +8,7 @@ use Rattle.graph.specs.Dag.{Node, node_at}
 use Rattle.queries.specs.Conversion.{circuit_of}
 use Rattle.queries.specs.Circuits.{CircuitWhole, EdgesRespected}
 use Rattle.file.specs.declared.Outcome.TheVariants.{Done}
-use Rattle.insertion.specs.declared.LoadingRule.{LoadingRule}
+use Rattle.links.specs.Links.{LoadingRule}
 use Rattle.insertion.specs.Load.{load_by}
 use Rattle.insertion.specs.Calls.{Call, built}
 use Rattle.insertion.specs.Conversion.{insertion_order, from_circuit}

@@ -7,7 +7,7 @@ use Rattle.graph.specs.Dag.{Node, append_node, size, entries_of, with_edges}
 use Rattle.links.specs.Links.{Linked, FarRule, link_by, link}
 use Rattle.registers.specs.Registers.{Maps, registers_after, with_entries}
 
--- "Front insertion is the mirror: first for last, first_all for last_all, edges out of v." The graph seen from its front
+-- "Front insertion is the mirror: first for last, firstAll for lastAll, edges out of v." The graph seen from its front
 abbrev pub facing : Bool → CircuitDag → CircuitDag
 facing false g = g
 facing true g = record {

@@ -8,10 +8,8 @@ use Rattle.graph.specs.declared.CircuitDag.{CircuitDag}
 use Rattle.insertion.specs.declared.Answer.{Answer}
 use Rattle.insertion.specs.declared.Answer.TheVariants.{Node, Refused}
 use Rattle.insertion.specs.declared.Inserted.{Inserted}
-use Rattle.insertion.specs.declared.LoadingRule.{LoadingRule}
-use Rattle.insertion.specs.declared.LoadingRule.TheVariants.{NearAll, FarAll}
 use Rattle.graph.specs.Dag.{node, size}
-use Rattle.links.specs.Links.{FarRule, near_all, far_all}
+use Rattle.links.specs.Links.{FarRule, LoadingRule, NearAll, rule_of}
 use Rattle.registers.specs.Registers.{maps_pass}
 use Rattle.insertion.specs.Insertion.{facing, linked, registered, grown}
 use Rattle.graph.specs.Soundness.{sound}
@@ -43,15 +41,10 @@ insert_as rule i g s =
     (cond (registers_pass g s) (refused (TooManyRegisters i) g)
     (record { answer = Node (node (size g)); graph = grown rule g s }))))
 
--- the two ways to load and insert, document 01's and K6's: what a new qubit gets at the other end
-abbrev pub rule_of : LoadingRule → FarRule
-rule_of NearAll = near_all
-rule_of FarAll = far_all
-
--- one call, in either way: "graph isn't sound" comes first; "record (0 on insertion)"
+-- one call, by either rule: "graph isn't sound" comes first; "record (0 on insertion)"
 unfoldable pub insert_by : LoadingRule → CircuitDag → List ℕ → Inserted
 insert_by rule g s = cond (sound g) (insert_as (rule_of rule) 0 g s) (refused Unsound g)
 
--- document 01's insertion; K6: "The old calls remain"
+-- document 01's insertion
 abbrev pub insert_of : CircuitDag → List ℕ → Inserted
 insert_of g s = insert_by NearAll g s

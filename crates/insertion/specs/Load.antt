@@ -10,10 +10,8 @@ use Rattle.insertion.specs.declared.Answer.TheVariants.{Node, Refused as NotInse
 use Rattle.file.specs.declared.Outcome.TheVariants.{Done, Refused}
 use Rattle.insertion.specs.declared.Loaded.{Loaded}
 use Rattle.graph.specs.Dag.{empty}
-use Rattle.links.specs.Links.{FarRule}
-use Rattle.insertion.specs.declared.LoadingRule.{LoadingRule}
-use Rattle.insertion.specs.declared.LoadingRule.TheVariants.{NearAll}
-use Rattle.insertion.specs.Limits.{rule_of, insert_as}
+use Rattle.links.specs.Links.{FarRule, LoadingRule, NearAll, rule_of}
+use Rattle.insertion.specs.Limits.{insert_as}
 
 -- "A refused load gives the empty graph."
 abbrev pub not_loaded : Refusal → Loaded
@@ -30,10 +28,10 @@ abbrev pub load_checked : FarRule → FileCheck → List ℕ → Loaded
 load_checked rule (BadFile r) s = not_loaded r
 load_checked rule Sound s = insert_records rule s empty (up_to (count_of s))
 
--- "Order: .. 2 once two bytes are there, 1, 3, then per record 4 to 7", K2's 12 behind 4. K6: "a second way to load and insert"
+-- "Order: .. 2 once two bytes are there, 1, 3, then per record 4 to 7", K2's 12 behind 4
 unfoldable pub load_by : LoadingRule → List ℕ → Loaded
 load_by rule s = load_checked (rule_of rule) (check_file s) s
 
--- document 01's load; K6: "The old calls remain"
+-- document 01's load
 abbrev pub load : List ℕ → Loaded
 load s = load_by NearAll s

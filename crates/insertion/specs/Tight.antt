@@ -1,13 +1,12 @@
--- K1: "Files accepted until today load to the same graph", and that slack changes no graph. For a load in either way and for a conversion. Assumes
+-- K1: "Files accepted until today load to the same graph", and that slack changes no graph. For a load by either rule and for a conversion. Assumes
 -- nothing.
 use Rattle.std.specs.Prelude.{◌≡◌, List, ℕ, ◌<◌}
 use Rattle.file.specs.declared.Outcome.TheVariants.{Done}
 use Rattle.file.specs.declared.FileCheck.TheVariants.{Sound}
 use Rattle.file.specs.Pairs.{count_of, check_file, record_at}
 use Rattle.file.specs.Tight.{tight_file}
-use Rattle.insertion.specs.declared.LoadingRule.{LoadingRule}
+use Rattle.links.specs.Links.{LoadingRule, rule_of}
 use Rattle.insertion.specs.declared.Loaded.{Loaded}
-use Rattle.insertion.specs.Limits.{rule_of}
 use Rattle.insertion.specs.Load.{load_checked, load_by}
 use Rattle.insertion.specs.Conversion.{convert_checked, from_circuit}
 

@@ -9,8 +9,7 @@ use Rattle.file.specs.declared.InvolvedQubits.TheVariants.{None, All, Set}
 use Rattle.graph.specs.declared.CircuitDag.{CircuitDag}
 use Rattle.graph.specs.declared.End.{End}
 use Rattle.graph.specs.Dag.{empty, present, at_qubit}
-use Rattle.links.specs.Links.{qubits}
-use Rattle.insertion.specs.declared.LoadingRule.TheVariants.{FarAll}
+use Rattle.links.specs.Links.{qubits, FarAll}
 use Rattle.insertion.specs.Limits.{accepts, insert_of}
 use Rattle.insertion.specs.Load.{load_by, load}
 use Rattle.insertion.specs.Calls.{final_by, final}
@@ -21,7 +20,7 @@ brings_new None near = false
 brings_new All near = false
 brings_new (Set m) near = any_of (λ q. not (present (at_qubit near q))) (qubits m)
 
--- the record s, accepted on the graph g, brings a qubit that is new at its end while first_all and last_all are different nodes
+-- the record s, accepted on the graph g, brings a qubit that is new at its end while firstAll and lastAll are different nodes
 abbrev pub differs_at : CircuitDag → List ℕ → Bool
 differs_at g s = accepts (insert_of g s).answer
     && (brings_new (qubits_of s) (cond (front s) g.first g.last) && not (eqb g.first.all.0 g.last.all.0))

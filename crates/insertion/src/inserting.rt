@@ -1,26 +1,16 @@
 // A single insertion: the record's node, its links and its register maps, on the parts of a graph.
 ghost use Rattle.std.specs.Prelude.{◌≡◌, true};
 ghost use Rattle.graph.specs.Soundness.{sound};
-ghost use Rattle.links.specs.Links.{rule_if};
-ghost use Rattle.insertion.specs.Limits.{rule_of, refused, insert_as, insert_by, insert_of};
+ghost use Rattle.links.specs.Links.{rule_of};
+ghost use Rattle.insertion.specs.Limits.{refused, insert_as, insert_by, insert_of};
 ghost use Rattle.insertion.specs.Parts.{node_lists};
 
 use crate::assembling::assemble;
 use crate::nodes::{NodeLists, list_node};
-use crate::{Answer, Inserted, LoadingRule};
+use crate::{Answer, Inserted};
 use file::{Outcome, Parsed, Refusal};
 use graph::{CircuitDag, NodeIndex};
-use links::FarRule;
-
-// The rule for a new qubit's far entry, as the functions below take it.
-pub(crate) fn far_rule(rule: LoadingRule) -> FarRule
-    ensures { rule_if result ≡ rule_of rule }
-{
-    match rule {
-        LoadingRule::NearAll => links::NEAR_ALL,
-        LoadingRule::FarAll => links::FAR_ALL,
-    }
-}
+use links::LoadingRule;
 
 // A refusal leaves the graph as it was.
 fn not_inserted(r: Refusal, g: CircuitDag) -> Inserted
@@ -47,9 +37,9 @@ fn node_lists(g: CircuitDag) -> NodeLists
 }
 
 // Record i on a sound graph: 4, 12, 5, 6, 7.
-fn insert_sound(rule: FarRule, i: usize, g: CircuitDag, part: &[u8]) -> Inserted
+fn insert_sound(rule: LoadingRule, i: usize, g: CircuitDag, part: &[u8]) -> Inserted
     requires { sound g ≡ true }
-    ensures { result ≡ insert_as (rule_if rule) i g part.now }
+    ensures { result ≡ insert_as (rule_of rule) i g part.now }
 {
     let parsed = file::parse_record(part);
     let s = match parsed {
@@ -76,20 +66,19 @@ fn insert_sound(rule: FarRule, i: usize, g: CircuitDag, part: &[u8]) -> Inserted
     }
 }
 
-// Any bytes as a record on any graph, in either way: 11, then 4, 12, 5, 6, 7. A refusal returns the graph that came in.
+// Any bytes as a record on any graph: 11, then 4, 12, 5, 6, 7. A refusal returns the graph that came in.
 pub fn insert_by(rule: LoadingRule, g: CircuitDag, part: &[u8]) -> Inserted
     ensures { result ≡ insert_by rule g part.now }
 {
-    let far = far_rule(rule);
     if graph::is_sound(g) {
-        return insert_sound(far, 0, g, part);
+        return insert_sound(rule, 0, g, part);
     }
     not_inserted(Refusal::Unsound, g)
 }
 
-// The same in document 01's way.
+// The same by document 01's rule.
 pub fn insert(g: CircuitDag, part: &[u8]) -> Inserted
     ensures { result ≡ insert_of g part.now }
 {
-    insert_by(LoadingRule::NearAll, g, part)
+    insert_by(links::NEAR_ALL, g, part)
 }

@@ -13,14 +13,6 @@ use graph::{CircuitDag, NodeIndex};
 pub use inserting::{insert, insert_by};
 pub use loading::{load, load_by};
 
-// The two ways to load and insert. A new qubit's entry at the far end becomes the all-qubit node of the near end (document 01), or of the
-// far end (K6); the new node where that is absent.
-#[derive(Clone, Copy)]
-pub enum LoadingRule {
-    NearAll,
-    FarAll,
-}
-
 // What an insertion answers, beside the graph.
 #[derive(Clone, Copy)]
 pub enum Answer {

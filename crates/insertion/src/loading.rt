@@ -5,17 +5,16 @@ ghost use Rattle.file.specs.Lists.{all_of, up_to};
 ghost use Rattle.file.specs.Pairs.{count_of, check_file};
 ghost use Rattle.file.specs.declared.FileCheck.TheVariants.{Sound};
 ghost use Rattle.graph.specs.Dag.{empty};
-ghost use Rattle.links.specs.Links.{rule_if};
+ghost use Rattle.links.specs.Links.{rule_of};
 ghost use Rattle.insertion.specs.Load.{not_loaded, insert_records, load_by};
 ghost use Rattle.insertion.specs.Load.{load as load_of};
 
+use crate::Loaded;
 use crate::assembling::assemble;
-use crate::inserting::far_rule;
 use crate::nodes::list_nodes;
-use crate::{Loaded, LoadingRule};
 use file::{FileCheck, Outcome, Refusal};
 use graph::CircuitDag;
-use links::FarRule;
+use links::LoadingRule;
 
 // A refused load gives the empty graph.
 pub(crate) fn not_loaded(r: Refusal) -> Loaded
@@ -42,10 +41,10 @@ pub(crate) fn file_order() -> [u16; 512]
 
 // The records with these numbers of a file that passed the check, one after the other, on the empty graph. A refusal by
 // the register maps comes before one by the links: the maps are made of the records before it.
-pub(crate) fn insert_in_order(rule: FarRule, file: &[u8], order: &[u16]) -> Loaded
+pub(crate) fn insert_in_order(rule: LoadingRule, file: &[u8], order: &[u16]) -> Loaded
     requires { (check_file file.now ≡ Sound) × (all_of (λ i. ltb i (count_of file.now)) order.now ≡ true)
         × (length order.now ≤ 512) }
-    ensures { result ≡ insert_records (rule_if rule) file.now empty order.now }
+    ensures { result ≡ insert_records (rule_of rule) file.now empty order.now }
 {
     let x = registers::register_records(rule, file, order);
     let registered = x.registered;
@@ -64,11 +63,10 @@ pub(crate) fn insert_in_order(rule: FarRule, file: &[u8], order: &[u16]) -> Load
     }
 }
 
-// A circuit file, in either way, or the first refusal: 2, 1, 3, then per record 4, 12, 6, 7.
+// A circuit file, or the first refusal: 2, 1, 3, then per record 4, 12, 6, 7.
 pub fn load_by(rule: LoadingRule, file: &[u8]) -> Loaded
     ensures { result ≡ load_by rule file.now }
 {
-    let far = far_rule(rule);
     let found = file::check_file(file);
     match found {
         FileCheck::Refused(r) => not_loaded(r),
@@ -76,14 +74,14 @@ pub fn load_by(rule: LoadingRule, file: &[u8]) -> Loaded
             let start: usize = 0;
             let n = file::record_count(file);
             let order = file_order();
-            insert_in_order(far, file, &order[start..n])
+            insert_in_order(rule, file, &order[start..n])
         }
     }
 }
 
-// The same in document 01's way.
+// The same by document 01's rule.
 pub fn load(file: &[u8]) -> Loaded
     ensures { result ≡ load_of file.now }
 {
-    load_by(LoadingRule::NearAll, file)
+    load_by(links::NEAR_ALL, file)
 }

@@ -186,18 +186,18 @@ module _ (rule : FarRule) (names : NamesAll rule) (mask v : ℕ) (bits : mask < 
     (nearNode' farNode' : List ℕ) (nearBlock' farBlock' : List Bool) (others : List ℕ) (k t : ℕ) (n f : EndState)
     (fresh : ℕ) (gives : Gives rule v near.all far.all fresh) (set-linked : SetLinked mask v near.all fresh nearNode farNode nearBlock nearNode' farNode' nearBlock' others k)
     (below : mask < 2 ^ t) (low : t ≤ 64) (block : farBlock' ≡ cond (eqb k 0) (set farBlock v true) farBlock)
-    (near-grown : StateGrown near t (not (eqb mask 0)) n) (far-grown : StateGrown far t (eqb k 0) f) where
+    (near_grown : StateGrown near t (not (eqb mask 0)) n) (far-grown : StateGrown far t (eqb k 0) f) where
   linked : link_qubits rule (qubits mask) v (record { near = end_of nearNode near nearBlock; far = end_of farNode far farBlock; others = [] })
       ≡ record { near = end_with nearNode' near.all nearBlock'; far = end_with farNode' far.all farBlock; others = take k others }
   linked = set-linked.is rule far.all farBlock gives
 
-  fits : LinkFits v t n.top f.top small low near-grown.new far-grown.new near-grown.low far-grown.low
+  fits : LinkFits v t n.top f.top small low near_grown.new far-grown.new near_grown.low far-grown.low
       (record { near = end_with nearNode' near.all nearBlock'; far = end_with farNode' far.all farBlock; others = take k others })
-  fits = rw linked at (link_fits v t n.top f.top small low near-grown.new far-grown.new near-grown.low far-grown.low rule names (qubits mask)
+  fits = rw linked at (link_fits v t n.top f.top small low near_grown.new far-grown.new near_grown.low far-grown.low rule names (qubits mask)
       (record { near = end_of nearNode near nearBlock; far = end_of farNode far farBlock; others = [] })
       (rw zero-add at (qubits-below 64 0 mask t below))
       (record {
-        near = map_more v (v + 1) near.top n.top nearNode (omega arith) near-grown.old (end_map v nearNode near nearBlock near_fits);
+        near = map_more v (v + 1) near.top n.top nearNode (omega arith) near_grown.old (end_map v nearNode near nearBlock near_fits);
         far = map_more v (v + 1) far.top f.top farNode (omega arith) far-grown.old (end_map v farNode far farBlock far_fits);
         all = within_more v (v + 1) near.all.0 (omega arith) near_fits.all;
         far_all_lem = within_more v (v + 1) far.all.0 (omega arith) far_fits.all;
@@ -207,7 +207,7 @@ module _ (rule : FarRule) (names : NamesAll rule) (mask v : ℕ) (bits : mask < 
   near_some : present n.members ≡ any_of (λ b. b) nearBlock'
   near_some =
       let b = link-block rule (qubits mask) v (record { near = end_of nearNode near nearBlock; far = end_of farNode far farBlock; others = [] }) small near_fits.blocks in
-      rw (near-grown.members, some_grown, near_fits.some) (turned _ (eqb mask 0) ∙ sym (rw (linked, empty-qubits mask bits) at b))
+      rw (near_grown.members, some_grown, near_fits.some) (turned _ (eqb mask 0) ∙ sym (rw (linked, empty-qubits mask bits) at b))
     where
       turned : (a b : Bool) → cond (not b) true a ≡ cond b a true
       turned a true = refl
@@ -222,7 +222,7 @@ module _ (rule : FarRule) (names : NamesAll rule) (mask v : ℕ) (bits : mask < 
   joined_set =
       let e = empty-take k others (omega (arith, set-linked.few, set-linked.size)) in
       record {
-        near = rw (linked, near-grown.all) refl;
+        near = rw (linked, near_grown.all) refl;
         far = rw (linked, far-grown.all, e, block) refl;
         joined = rw linked refl;
         few = set-linked.few;
@@ -231,11 +231,11 @@ module _ (rule : FarRule) (names : NamesAll rule) (mask v : ℕ) (bits : mask < 
           nodes = fits.near.size;
           blocks = fits.block;
           entries = fits.near.entries;
-          all = rw near-grown.all fits.all;
-          low = near-grown.low;
+          all = rw near_grown.all fits.all;
+          low = near_grown.low;
           top = fits.near.top;
           some = near_some;
-          only = only_grown (not (eqb mask 0)) near.members n.members nearBlock nearBlock' near-grown.members near_stays near_fits.only;
+          only = only_grown (not (eqb mask 0)) near.members n.members nearBlock nearBlock' near_grown.members near_stays near_fits.only;
         };
         far_fits = record {
           nodes = fits.far.size;
@@ -300,7 +300,7 @@ or_some m = ⊎_elim (λ (e : eqb m absent ≡ true). rw e refl) (λ (e : eqb m 
 module _ (v : NodeIndex) (small : v.0 < 512) (near far : EndState) (nearNode farNode : List ℕ) (nearBlock farBlock : List Bool)
     (near_fits : EndFits v.0 nearNode near nearBlock) (far_fits : EndFits v.0 farNode far farBlock)
     (nearBlock' farBlock' : List Bool) (others : List ℕ)
-    (near-block : nearBlock' ≡ set (replicate 512 false) v.0 true) (far-block : farBlock' ≡ cond (eqb far.members absent) (set farBlock v.0 true) farBlock) where
+    (near_block : nearBlock' ≡ set (replicate 512 false) v.0 true) (far-block : farBlock' ≡ cond (eqb far.members absent) (set farBlock v.0 true) farBlock) where
   -- the near end with this map, and the far end
   near_end : (nearNode' : List ℕ) (t : ℕ) → t ≤ 64 → MapFits (v.0 + 1) t nearNode' → EndFits (v.0 + 1) nearNode' (near_state v t) nearBlock'
   near_end nearNode' t low m =
@@ -308,13 +308,13 @@ module _ (v : NodeIndex) (small : v.0 < 512) (near far : EndState) (nearNode far
       let p : eqb v.0 absent ≡ false = ne_eqb v.0 absent (omega arith) in
       record {
         nodes = m.size;
-        blocks = rw (near-block, length-set) n;
+        blocks = rw (near_block, length-set) n;
         entries = m.entries;
         all = λ p. omega arith;
         low = low;
         top = m.top;
-        some = rw (p, near-block) (sym (any_set (replicate 512 false) v.0 (omega (arith, n))));
-        only = λ h. near-block;
+        some = rw (p, near_block) (sym (any_set (replicate 512 false) v.0 (omega (arith, n))));
+        only = λ h. near_block;
       }
 
   far_end : (farNode' : List ℕ) (t : ℕ) → t ≤ 64 → MapFits (v.0 + 1) t farNode' → EndFits (v.0 + 1) farNode' (far_state far v t) farBlock'
@@ -345,7 +345,7 @@ module _ (v : NodeIndex) (small : v.0 < 512) (near far : EndState) (nearNode far
     joined-none e nearNode' farNode' hn hf size en ef =
         let b = both_true (not (any_of present nearNode)) (not (any_of present farNode)) e in
         record {
-          near = rw (e, hn, near-block, en) refl;
+          near = rw (e, hn, near_block, en) refl;
           far = rw (e, hf, far-is, ef) refl;
           joined = rw e refl;
           few = omega arith;
@@ -361,7 +361,7 @@ module _ (v : NodeIndex) (small : v.0 < 512) (near far : EndState) (nearNode far
         (record { count = k; near = n; far = f }) nearNode' farNode nearBlock' farBlock' others
     unfolding link_all
     joined_all e nearNode' k h en ef = record {
-      near = rw (e, h.is, near-block, en) refl;
+      near = rw (e, h.is, near_block, en) refl;
       far = rw (e, far-is, ef) refl;
       joined = rw e h.joined;
       few = h.few;

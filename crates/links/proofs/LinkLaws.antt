@@ -20,7 +20,7 @@ use Rattle.file.proofs.BoolLaws.{bool_cases, clash_bool, both_true, flip-not}
 use Rattle.graph.proofs.ListLaws.{distinct_first, distinct-rest, distinct_more, any-later}
 use Rattle.links.specs.Links.{Linked, FarRule, near_all, far_all, source, near_after, far_after, no_qubit, qubits}
 use Rattle.links.specs.Links.{link_qubits, link_set, mapped, link_all, link_by}
-use Rattle.links.specs.Links.{link_at, rule_if, qubits_from, edge_bound}
+use Rattle.links.specs.Links.{link_at, rule_of, qubits_from, edge_bound}
 use Rattle.links.proofs.QubitLaws.{all_more, all_first, all_rest, qubits_ascend}
 
 -- ---- tests and lists
@@ -274,7 +274,7 @@ far-length rule near far r v =
     (λ (e : present (at_qubit near r) ≡ false). rw (e, length-set) refl)
     (bool_cases (present (at_qubit near r)))
 
--- "If q was new, first[q] becomes last_all, or v if that is absent." Otherwise it stays
+-- "If q was new, first[q] becomes lastAll, or v if that is absent." Otherwise it stays
 abbrev pub far_entry : FarRule → End → End → ℕ → ℕ → ℕ
 far_entry rule near far v q = cond (present (at_qubit near q)) (at_qubit far q) (or_else (rule near far) v)
 
@@ -289,7 +289,7 @@ far_here rule near far v q h =
 abbrev pub NamesAll : FarRule → Type 0
 NamesAll rule = (near far : End) → present (rule near far) ≡ true → (rule near far ≡ near.all.0) ⊎ (rule near far ≡ far.all.0)
 
-pub names_all : (b : Bool) → NamesAll (rule_if b)
+pub names_all : (b : Bool) → NamesAll (rule_of b)
 names_all false near far p = inl refl
 names_all true near far p = inr refl
 
@@ -297,7 +297,7 @@ names_all true near far p = inr refl
 abbrev pub Steady : FarRule → Type 0
 Steady rule = (near far : End) (v q : ℕ) → rule (near_after near q v) (far_after rule near far q v) ≡ rule near far
 
-pub steady_rule : (b : Bool) → Steady (rule_if b)
+pub steady_rule : (b : Bool) → Steady (rule_of b)
 steady_rule b near far v q = refl
 
 module _ (rule : FarRule) (v q : ℕ) where
@@ -346,7 +346,7 @@ unfolding link_set
 set_outside rule m v q near far i = link_outside rule v q (qubits m) (record { near = near; far = far; others = [] }) i
 
 module _ (m v q : ℕ) (first last : End) (among : member q (qubits m) ≡ true) (in_first : q < length first.node) (in-last : q < length last.node) where
-  -- back: "If q was new, first[q] becomes last_all"
+  -- back: "If q was new, first[q] becomes lastAll"
   pub new-back : present (at_qubit last q) ≡ false → present last.all.0 ≡ true → at_qubit (link_at near_all false (Set m) v first last).far q ≡ last.all.0
   new-back n a = (set_entries near_all (λ near far v q. refl) m v q last first among in-last in_first).1 ∙ rw (n, a) refl
 
@@ -354,7 +354,7 @@ module _ (m v q : ℕ) (first last : End) (among : member q (qubits m) ≡ true)
   pub new_alone : present (at_qubit last q) ≡ false → present last.all.0 ≡ false → at_qubit (link_at near_all false (Set m) v first last).far q ≡ v
   new_alone n a = (set_entries near_all (λ near far v q. refl) m v q last first among in-last in_first).1 ∙ rw (n, a) refl
 
-  -- front: "So a new q gets last[q] = first_all."
+  -- front: "So a new q gets last[q] = firstAll."
   pub new-front : present (at_qubit first q) ≡ false → present first.all.0 ≡ true → at_qubit (link_at near_all true (Set m) v first last).far q ≡ first.all.0
   new-front n a = (set_entries near_all (λ near far v q. refl) m v q first last among in_first in-last).1 ∙ rw (n, a) refl
 

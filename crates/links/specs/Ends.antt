@@ -98,11 +98,11 @@ pub record StateGrown (s : EndState) (t : ℕ) (joins : Bool) (r : EndState) : T
   pub low : r.top ≤ 64
   pub members : r.members ≡ cond joins several s.members
 
--- the numbers of the near end after All, with the bound t: last_all becomes v, and the last block {v}
+-- the numbers of the near end after All, with the bound t: lastAll becomes v, and the last block {v}
 abbrev pub near_state : NodeIndex → ℕ → EndState
 near_state v t = record { all = v; top = t; members = v.0 }
 
--- .. of the far end: "first_all becomes v if absent", and the first block has a node
+-- .. of the far end: "firstAll becomes v if absent", and the first block has a node
 abbrev pub far_state : EndState → NodeIndex → ℕ → EndState
 far_state s v t = record { all = node (or_else s.all.0 v.0); top = t; members = or_else s.members several }
 

@@ -44,7 +44,7 @@ link_records rule s x (i ∷ l) =
       | Parses r ↦ let y = link_record rule i r.front r.qubits x in elim y.answer [ Done ↦ link_records rule s y l | Refused c ↦ y ]
     ]
 
--- the clauses on the ends and edges that linking goes by: "every stored node number is below the node count", of the maps, first_all and last_all;
+-- the clauses on the ends and edges that linking goes by: "every stored node number is below the node count", of the maps, firstAll and lastAll;
 -- and "2,048 edges"
 abbrev pub links_fit : ℕ → Edges → End → End → Bool
 links_fit v edges first last = leb edges.count 2048 && (all_of (if_present (λ u. ltb u v)) (named first) && all_of (if_present (λ u. ltb u v)) (named last))

@@ -23,24 +23,37 @@ pub record Linked : Type 0 where
   pub far : End
   pub others : List ℕ
 
--- "If q was new, first[q] becomes last_all, or v if that is absent": which node it becomes is a parameter
+-- "If q was new, first[q] becomes lastAll, or v if that is absent": which node it becomes is a parameter,
+-- and near_all is document 01's
 abbrev pub FarRule : Type 0
 FarRule = End → End → ℕ
 
--- document 01's: last_all at the back
+-- document 01's: lastAll at the back
 abbrev pub near_all : End → End → ℕ
 near_all near far = near.all.0
 
--- K6's: "a new qubit added at the back gets first[q] = first_all, and one added at the front gets last[q] = last_all, or the new node itself where that
--- is absent"
+-- the other end's: firstAll at the back
 abbrev pub far_all : End → End → ℕ
 far_all near far = far.all.0
 
--- for functions that are given the rule as a bool: K6's if it is true
-abbrev pub rule_if : Bool → FarRule
-rule_if b near far = cond b (far_all near far) (near_all near far)
+-- which of the two the code is given: the other end's if it is true
+abbrev pub LoadingRule : Type 0
+LoadingRule = Bool
 
--- "the source is last[q], else last_all"
+-- document 01's
+abbrev pub NearAll : LoadingRule
+NearAll = false
+
+-- K6's: "a new qubit added at the back gets first[q] = firstAll, and one added at the front gets last[q] = lastAll, or the new node itself where that
+-- is absent"
+abbrev pub FarAll : LoadingRule
+FarAll = true
+
+-- the rule that it stands for
+abbrev pub rule_of : LoadingRule → FarRule
+rule_of rule near far = cond rule (far_all near far) (near_all near far)
+
+-- "the source is last[q], else lastAll"
 abbrev pub source : End → ℕ → ℕ
 source near q = or_else (at_qubit near q) near.all.0
 
@@ -52,7 +65,7 @@ near_after near q v = record {
   block = set (cond (present (source near q)) (set near.block (source near q) false) near.block) v true;
 }
 
--- "If q was new, first[q] becomes last_all, or v if that is absent." New: absent in last
+-- "If q was new, first[q] becomes lastAll, or v if that is absent." New: absent in last
 abbrev pub far_after : FarRule → End → End → ℕ → ℕ → End
 far_after rule near far q v = record {
   node = cond (present (at_qubit near q)) far.node (set far.node q (or_else (rule near far) v));
@@ -90,7 +103,7 @@ unfoldable pub mapped : List ℕ → List ℕ → List ℕ
 mapped [] seen = seen
 mapped (u ∷ l) seen = mapped l (cond (present u) (add u seen) seen)
 
--- "All: first_all becomes v if absent; last_all becomes v; the last block becomes {v}; v joins the first block if that is empty. If both maps are
+-- "All: firstAll becomes v if absent; lastAll becomes v; the last block becomes {v}; v joins the first block if that is empty. If both maps are
 -- empty, qubit 0 maps to v in both. Else every node in the last map points to v and all its qubits map to v."
 unfoldable pub link_all : ℕ → End → End → Linked
 link_all v near far = let both_empty = no_qubit near && no_qubit far in record {

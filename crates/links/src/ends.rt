@@ -5,12 +5,12 @@ ghost use Rattle.std.specs.Int.Bits.{bit_and};
 ghost use Rattle.std.specs.Int.Count.{count_trailing_zeros};
 ghost use Rattle.file.specs.Lists.{member, any_of};
 ghost use Rattle.graph.specs.Dag.{absent, present, or_else};
-ghost use Rattle.links.specs.Links.{rule_if, qubits, link_set, link_all, link_by, link};
+ghost use Rattle.links.specs.Links.{rule_of, qubits, link_set, link_all, link_by, link};
 ghost use Rattle.links.specs.Ends.{entry_at, with_entry, end_state, Only, OtherAdded, Gives, SetLinked, AllLinked, StateGrown, near_state, far_state};
 ghost use Rattle.links.specs.Ends.{JoinedBy, JoinedEndsBy, EdgesAdded, lent_end, LentFits, joined, joined_ends};
 ghost use Rattle.links.specs.Links.{link_at, edge_bound};
 
-use crate::FarRule;
+use crate::LoadingRule;
 use file::InvolvedQubits;
 use graph::{NodeIndex, Qubit};
 
@@ -50,8 +50,13 @@ fn or_else(a: NodeIndex, b: NodeIndex) -> NodeIndex
 }
 
 // What a new qubit's entry at the far end becomes: the rule's all-qubit node, else v.
-fn fresh_entry(rule: FarRule, near_all: NodeIndex, far_all: NodeIndex, v: NodeIndex) -> NodeIndex
-    ensures { Gives (rule_if rule) v.0 near_all far_all result.0 }
+fn fresh_entry(
+    rule: LoadingRule,
+    near_all: NodeIndex,
+    far_all: NodeIndex,
+    v: NodeIndex,
+) -> NodeIndex
+    ensures { Gives (rule_of rule) v.0 near_all far_all result.0 }
 {
     if rule {
         return or_else(far_all, v);
@@ -323,13 +328,13 @@ fn join_set(
     near_block: &mut [bool; 512],
     far_block: &mut [bool; 512],
     others: &mut [u16; 64],
-    rule: FarRule,
+    rule: LoadingRule,
 ) -> usize
     requires { (v.0 < 512) × (length others.old ≡ 64)
         × LentFits v.0 near.old near_node.old near_block.old
         × LentFits v.0 far.old far_node.old far_block.old }
     ensures { JoinedBy
-        (link_set (rule_if rule) mask v.0
+        (link_set (rule_of rule) mask v.0
         (lent_end near.old near_node.old near_block.old)
         (lent_end far.old far_node.old far_block.old))
         (v.0 + 1) (joined result near.new far.new)
@@ -413,13 +418,13 @@ pub(crate) fn join_end(
     near_block: &mut [bool; 512],
     far_block: &mut [bool; 512],
     others: &mut [u16; 64],
-    rule: FarRule,
+    rule: LoadingRule,
 ) -> usize
     requires { (v.0 < 512) × (length others.old ≡ 64)
         × LentFits v.0 near.old near_node.old near_block.old
         × LentFits v.0 far.old far_node.old far_block.old }
     ensures { JoinedBy
-        (link_by qubits (rule_if rule) v.0
+        (link_by qubits (rule_of rule) v.0
         (lent_end near.old near_node.old near_block.old)
         (lent_end far.old far_node.old far_block.old))
         (v.0 + 1) (joined result near.new far.new)
@@ -448,13 +453,13 @@ pub(crate) fn join_record(
     first_block: &mut [bool; 512],
     last_block: &mut [bool; 512],
     others: &mut [u16; 64],
-    rule: FarRule,
+    rule: LoadingRule,
 ) -> usize
     requires { (v.0 < 512) × (length others.old ≡ 64)
         × LentFits v.0 first.old first_node.old first_block.old
         × LentFits v.0 last.old last_node.old last_block.old }
     ensures { JoinedEndsBy front
-        (link_at (rule_if rule) front qubits v.0
+        (link_at (rule_of rule) front qubits v.0
         (lent_end first.old first_node.old first_block.old)
         (lent_end last.old last_node.old last_block.old))
         (v.0 + 1) (joined_ends result first.new last.new)

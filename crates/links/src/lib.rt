@@ -10,14 +10,14 @@ use graph::{Edges, End};
 pub use records::{link_node, link_records};
 
 // Which all-qubit node a new qubit's entry at the far end becomes: the near end's, or, if it is true, the far end's. A bool goes by
-// value; an enum, as insertion's LoadingRule, goes by reference.
-pub type FarRule = bool;
+// value, so that the compiler knows it in calls that are bound to one rule; an enum goes by reference.
+pub type LoadingRule = bool;
 
 // Document 01's.
-pub const NEAR_ALL: FarRule = false;
+pub const NEAR_ALL: LoadingRule = false;
 
 // K6's.
-pub const FAR_ALL: FarRule = true;
+pub const FAR_ALL: LoadingRule = true;
 
 // How many nodes there are, whether all records were accepted, and the ends and edges that join the nodes.
 #[derive(Clone, Copy)]

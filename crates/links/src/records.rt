@@ -6,11 +6,11 @@ ghost use Rattle.file.specs.Pairs.{pair_place};
 ghost use Rattle.file.specs.Records.{refusal_from};
 ghost use Rattle.graph.specs.Soundness.{named, if_present};
 ghost use Rattle.links.specs.Ends.{end_state, end_state_of, lent_end};
-ghost use Rattle.links.specs.Links.{rule_if};
+ghost use Rattle.links.specs.Links.{rule_of};
 ghost use Rattle.links.specs.Linking.{links_from, links_stopped, no_links, links_fit, links_kept, link_node, link_records};
 
 use crate::ends::{ALL, add_edges, edges_pass, join_record};
-use crate::{FarRule, LinkedRecords};
+use crate::{LinkedRecords, LoadingRule};
 use file::{InvolvedQubits, Outcome, Parsed, Place, Refusal};
 use graph::{Edges, End, NodeIndex};
 
@@ -142,7 +142,7 @@ fn links_fit(n: usize, edges: Edges, first: End, last: End) -> bool
 // Record i, at this end and with these qubits, as node v, on the ends and edges of a graph with v nodes: 11 where an end names another node or there
 // are too many edges, then 5, 6. A refusal leaves them as they were.
 pub fn link_node(
-    rule: FarRule,
+    rule: LoadingRule,
     i: usize,
     front: bool,
     qubits: InvolvedQubits,
@@ -151,7 +151,7 @@ pub fn link_node(
     first: End,
     last: End,
 ) -> LinkedRecords
-    ensures { result ≡ link_node (rule_if rule) i front qubits v edges first last }
+    ensures { result ≡ link_node (rule_of rule) i front qubits v edges first last }
 {
     let n = v.0 as usize;
     if !links_fit(n, edges, first, last) {
@@ -202,8 +202,8 @@ pub fn link_node(
 
 // The file's records with these numbers, one after the other, as nodes 0, 1, 2, ..: each 2, 1, 8, 3 where the file has
 // it not, then 4, 12, 5, 6.
-pub fn link_records(rule: FarRule, file: &[u8], order: &[u16]) -> LinkedRecords
-    ensures { result ≡ link_records (rule_if rule) file.now no_links order.now }
+pub fn link_records(rule: LoadingRule, file: &[u8], order: &[u16]) -> LinkedRecords
+    ensures { result ≡ link_records (rule_of rule) file.now no_links order.now }
 {
     let mut count: usize = 0;
     let mut first = [65535u16, 0, 65535];

@@ -19,11 +19,10 @@ use Rattle.accessors.specs.declared.Operation.TheVariants.{Node as Named, None}
 use Rattle.accessors.specs.Accessors.{get, last_parallel_block, commuting_operations, first_involving_qubit, last_involving_qubit, node_of_key}
 use Rattle.accessors.specs.Accessors.{first_involving_classical, last_involving_classical}
 use Rattle.registers.specs.Registers.{put, define, set_keys, registers_after}
-use Rattle.links.specs.Links.{qubits_from, link_qubits, link_set, mapped, link_all}
+use Rattle.links.specs.Links.{qubits_from, link_qubits, link_set, mapped, link_all, FarAll}
 use Rattle.insertion.specs.Insertion.{grown}
 use Rattle.insertion.specs.Limits.{insert_as, insert_by}
 use Rattle.insertion.specs.Load.{insert_records, load_by}
-use Rattle.insertion.specs.declared.LoadingRule.TheVariants.{FarAll}
 use Rattle.insertion.specs.Calls.{graph_after, final_by, final}
 use Rattle.insertion.specs.Ways.{differs_from}
 use Rattle.walk.specs.Blocks.{marks, start, joined, followers, blocks_from, blocks, number_from, whole_walk}
@@ -58,12 +57,12 @@ bench_table = record {
   condition_met = (record { bytes = refl; one_all = λ a b. omega arith }, record { bytes = refl; one_all = λ a b. no_front a });
 }
 
--- "first[q] becomes last_all": B All, B All, B{3} gives first[3] = 1, where first_all would give 0. No case of the table tells the two apart.
+-- "first[q] becomes lastAll": B All, B All, B{3} gives first[3] = 1, where first_all would give 0. No case of the table tells the two apart.
 far_of_new : at_qubit (final one_end).first 3 ≡ 1
 unfolding rules
 far_of_new = refl
 
--- K6: "a new qubit added at the back gets first[q] = first_all": 0 in the same circuit; and so the two ways differ on it
+-- K6: "a new qubit added at the back gets first[q] = firstAll": 0 in the same circuit; and so the two ways differ on it
 far_of_new_both_ends : (at_qubit (final_by FarAll one_end).first 3 ≡ 0) × (differs_from empty one_end ≡ true)
     × (differs_from empty list5 ≡ true) × (differs_from empty at_both_ends ≡ false)
 unfolding rules differs_from

@@ -8,7 +8,7 @@ use Rattle.queries.specs.Queries.{new_front_layer}
 use Rattle.queries.specs.Conversion.{circuit_of}
 use Rattle.insertion.specs.Limits.{refused, insert_of}
 use Rattle.insertion.specs.Load.{not_loaded, load}
-use Rattle.insertion.specs.declared.LoadingRule.TheVariants.{FarAll}
+use Rattle.links.specs.Links.{FarAll}
 use Rattle.insertion.specs.Calls.{final_by, final}
 use Rattle.walk.specs.declared.BlockCount.TheVariants.{Blocks}
 use Rattle.walk.specs.Blocks.{whole_walk, blocks}

@@ -133,7 +133,7 @@ module _ (skip : List Bool) (near far : List ℕ) (m : ℕ) where
   pub meets_one : (r : List Bool) (i : ℕ) → Meeting r i → i < m → (a b : ℕ) → a ≡ get_or near i 0 → b ≡ get_or far i 0
       → Meeting (set r a (get_or r a false || not (get_or skip b false))) (i + 1)
   meets_one r i M k a b ea eb =
-      let l : a < length r = omega (arith, M.ends.near-below i k, M.long, ea) in
+      let l : a < length r = omega (arith, M.ends.near_below i k, M.long, ea) in
       record {
         ends = M.ends;
         low = omega arith;
@@ -233,7 +233,7 @@ module _ (near far : List ℕ) (m : ℕ) where
         → ((j : ℕ) → lo' ≤ j → j < hi' → (j ≡ i) ⊎ ((lo ≤ j) × (j < hi))) → (a b : ℕ) → a ≡ get_or near i 0 → b ≡ get_or far i 0
         → Sweeping (set mark a (get_or mark a false || get_or mark b false)) (moved || (get_or mark b false && not (get_or mark a false))) lo' hi'
     sweeps_one mark moved lo hi S i lo' hi' k t o part a b ea eb =
-        let l : a < length mark = omega (arith, S.ends.near-below i k, S.long, ea) in
+        let l : a < length mark = omega (arith, S.ends.near_below i k, S.long, ea) in
         let at : (u : ℕ) → get_or (set mark a (get_or mark a false || get_or mark b false)) u false ≡ (get_or mark u false || (eqb u a && get_or mark b false)) = λ u. mark-or mark a u (get_or mark b false) l in
         record {
           ends = S.ends;
@@ -351,7 +351,7 @@ pub orders_fewer : (near far : List ℕ) (m k : ℕ) → k ≤ m → Ordered nea
 orders_fewer near far m k h O = record { rises = λ i l. O.rises i (omega arith); ascends = λ i j a l. O.ascends i j a (omega arith) }
 
 pub ends_fewer : (near far : List ℕ) (m k : ℕ) → k ≤ m → EndsBelow near far m → EndsBelow near far k
-ends_fewer near far m k h E = record { count = omega (arith, E.count); near-below = λ i l. E.near-below i (omega arith); far-below = λ i l. E.far-below i (omega arith) }
+ends_fewer near far m k h E = record { count = omega (arith, E.count); near_below = λ i l. E.near_below i (omega arith); far-below = λ i l. E.far-below i (omega arith) }
 
 -- the edges from i to k - 1 carry no mark further
 module _ (near far : List ℕ) (k : ℕ) (mark₀ : List Bool) where
@@ -371,7 +371,7 @@ module _ (near far : List ℕ) (k : ℕ) (mark₀ : List Bool) where
       → Settling (set mark a (get_or mark a false || get_or mark b false)) (i - 1)
   settles_one mark i S h a b ea eb =
       let e : i - 1 < k = omega (arith, S.low) in
-      let l : a < length mark = omega (arith, S.ends.near-below (i - 1) e, S.long, ea) in
+      let l : a < length mark = omega (arith, S.ends.near_below (i - 1) e, S.long, ea) in
       let at : (u : ℕ) → get_or (set mark a (get_or mark a false || get_or mark b false)) u false ≡ (get_or mark u false || (eqb u a && get_or mark b false)) = λ u. mark-or mark a u (get_or mark b false) l in
       let far-still : (j : ℕ) → i - 1 ≤ j → j < k → get_or (set mark a (get_or mark a false || get_or mark b false)) (get_or far j 0) false ≡ get_or mark (get_or far j 0) false = λ j x y.
       get_or-set_other mark a (get_or far j 0) _ false (λ z. absurd (omega (arith, z, ea, S.ordered.rises (i - 1) e, S.ordered.ascends (i - 1) j x y))) in

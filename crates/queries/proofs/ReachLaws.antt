@@ -329,14 +329,14 @@ module _ (g : CircuitDag) (S : Sound g) where
   pub ends_back : EndsBelow g.edges.from g.edges.to m
   ends_back = record {
     count = S.edge_count;
-    near-below = λ i l. omega (arith, S.from-below i l, S.node-count);
+    near_below = λ i l. omega (arith, S.from-below i l, S.node-count);
     far-below = λ i l. omega (arith, S.to_below i l, S.node-count);
   }
 
   pub ends_on : EndsBelow g.edges.to g.edges.from m
   ends_on = record {
     count = S.edge_count;
-    near-below = λ i l. omega (arith, S.to_below i l, S.node-count);
+    near_below = λ i l. omega (arith, S.to_below i l, S.node-count);
     far-below = λ i l. omega (arith, S.from-below i l, S.node-count);
   }
 

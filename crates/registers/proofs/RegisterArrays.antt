@@ -255,9 +255,9 @@ pub both_over : (k : InvolvedClassical) (s : List ℕ) (v : ℕ) (near far near'
     → (ltb 256 (length (joined k s v near far).near) || ltb 256 (length (joined k s v near far).far)) ≡ true → BothBecome k s v near far near' far'
 both_over k s v near far near' far' a b = record {
   passes = a ∙ sym b;
-  near-count = λ e. absurd (clash_bool a e);
+  near_count = λ e. absurd (clash_bool a e);
   far-count = λ e. absurd (clash_bool a e);
-  near-map = λ e. absurd (clash_bool a e);
+  near_map = λ e. absurd (clash_bool a e);
   far-map = λ e. absurd (clash_bool a e);
 }
 
@@ -268,8 +268,8 @@ both_are k s v near far near' far' a b =
     let n : far'.count ≡ length (joined k s v near far).far = ap (λ (r : Registers). r.count) b in
     record {
       passes = rw (m, n) refl;
-      near-count = λ _. m;
+      near_count = λ _. m;
       far-count = λ _. n;
-      near-map = λ _. a;
+      near_map = λ _. a;
       far-map = λ _. b;
     }

@@ -49,8 +49,8 @@ module _ (k : InvolvedClassical) (near : Bool) (v : ℕ) (old : Registers) where
     by_name : map_by k near v (entries_of old) ≡ cond near (of_name n v (entries_of old)) (entries_of old)
     by_name = ⊎_elim (λ (e : k ≡ All n). rw e refl) (λ (e : k ≡ AllQubits n). rw e refl) named
 
-    pub map-near : (new : Registers) → near ≡ true → new ≡ with_entries old (of_name n v (entries_of old)) → Becomes old new (map_by k near v (entries_of old))
-    map-near new t e = rw (by_name, t) (becomes old new (of_name n v (entries_of old)) e)
+    pub map_near : (new : Registers) → near ≡ true → new ≡ with_entries old (of_name n v (entries_of old)) → Becomes old new (map_by k near v (entries_of old))
+    map_near new t e = rw (by_name, t) (becomes old new (of_name n v (entries_of old)) e)
 
     pub map-far : near ≡ false → Fits old → Becomes old old (map_by k near v (entries_of old))
     map-far t f = rw (by_name, t) (stays old f)
@@ -79,9 +79,9 @@ join_each k s v near far near' far' h a b =
     = λ r. b.kept (or_r (ltb 256 near'.count) (ltb 256 far'.count) r) ∙ ap (λ (x : Maps). with_entries far x.far) (sym e) in
     record {
       passes = rw (a.passes, b.passes) (ap (λ (x : Maps). ltb 256 (length x.near) || ltb 256 (length x.far)) (sym e));
-      near-count = λ r. ap (λ (x : Registers). x.count) (c r);
+      near_count = λ r. ap (λ (x : Registers). x.count) (c r);
       far-count = λ r. ap (λ (x : Registers). x.count) (d r);
-      near-map = c;
+      near_map = c;
       far-map = d;
     }
 
@@ -141,7 +141,7 @@ all_put p x (y ∷ l) a h = ⊎_elim
 
 -- what each put and each choice of a name keeps, the rule keeps
 module _ (v : ℕ) (P Q : List Entry → Type 0) (near-put : (n i : ℕ) (l : List Entry) → P l → P (put (entry n i v) l))
-    (far-put : (n i : ℕ) (l : List Entry) → Q l → Q (put (entry n i v) l)) (near-name : (n : ℕ) (l : List Entry) → P l → P (of_name n v l)) where
+    (far-put : (n i : ℕ) (l : List Entry) → Q l → Q (put (entry n i v) l)) (near_name : (n : ℕ) (l : List Entry) → P l → P (of_name n v l)) where
   set_keeps : (a b : ℕ → ℕ) (is : List ℕ) (r : Maps) → P r.near → Q r.far
       → P (set_keys (map (λ (i : ℕ). entry (a i) (b i) v) is) r).near × Q (set_keys (map (λ (i : ℕ). entry (a i) (b i) v) is) r).far
   set_keeps a b [] r p q = rw (set_none r) (p, q)
@@ -164,8 +164,8 @@ module _ (v : ℕ) (P Q : List Entry → Type 0) (near-put : (n i : ℕ) (l : Li
 
   pub rule_keeps : (k : InvolvedClassical) (s : List ℕ) (r : Maps) → P r.near → Q r.far → P (registers_by k s v r).near × Q (registers_by k s v r).far
   rule_keeps None s r p q = (p, q)
-  rule_keeps (All n) s r p q = (near-name n r.near p, q)
-  rule_keeps (AllQubits n) s r p q = (near-name n r.near p, q)
+  rule_keeps (All n) s r p q = (near_name n r.near p, q)
+  rule_keeps (AllQubits n) s r p q = (near_name n r.near p, q)
   rule_keeps (Set c) s r p q = set_keeps (entry_name s) (entry_index s) (up_to c) r p q
   rule_keeps (Definition n m) s r p q = define_keeps n (up_to m) r p q
 
@@ -222,7 +222,7 @@ pub fits_again : (k : InvolvedClassical) (s : List ℕ) (v : ℕ) (near far near
     → BothBecome k s v near far near' far' → pass near' far' ≡ false → Fits near' × Fits far'
 fits_again k s v near far near' far' f g b e =
     let d = keys_kept k s v (maps_of near far) f.keys g.keys in (
-      refit near near' _ f.sized d.0 (b.near-map e) (ltb-false 256 near'.count (or_l (ltb 256 near'.count) (ltb 256 far'.count) e)),
+      refit near near' _ f.sized d.0 (b.near_map e) (ltb-false 256 near'.count (or_l (ltb 256 near'.count) (ltb 256 far'.count) e)),
       refit far far' _ g.sized d.1 (b.far-map e) (ltb-false 256 far'.count (or_r (ltb 256 near'.count) (ltb 256 far'.count) e)),
     )
   where

@@ -87,12 +87,12 @@ module _ (s : List ℕ) (v c : ℕ) (near₀ far₀ : Registers) where
   -- the entries from k on are left
   pub record Setting (near far : Registers) (k : ℕ) : Type 0 where
     pub low : k ≤ c
-    pub near-grown : Grown near₀ near
+    pub near_grown : Grown near₀ near
     pub far-grown : Grown far₀ far
     pub same : set_keys (entries_from s v (c - k) k) (maps_of near far) ≡ set_keys (entries_from s v c 0) (maps_of near₀ far₀)
 
   pub set_begin : Fits near₀ → Fits far₀ → Setting near₀ far₀ 0
-  set_begin a b = record { low = omega arith; near-grown = grown_own near₀ a; far-grown = grown_own far₀ b; same = let z : c - 0 ≡ c = omega arith in rw z refl }
+  set_begin a b = record { low = omega arith; near_grown = grown_own near₀ a; far-grown = grown_own far₀ b; same = let z : c - 0 ≡ c = omega arith in rw z refl }
 
   module _ (near far : Registers) (k : ℕ) (i : Setting near far k) where
     pub set_done : c ≤ k → BothBecome (Set c) s v near₀ far₀ near far
@@ -101,7 +101,7 @@ module _ (s : List ℕ) (v c : ℕ) (near₀ far₀ : Registers) where
         let z : c - k ≡ 0 = omega arith in
         let e : maps_of near far ≡ registers_by (Set c) s v (maps_of near₀ far₀) = sym (set_none (maps_of near far)) ∙ rw z at i.same in
         both_are (Set c) s v near₀ far₀ near far
-        (i.near-grown.kept ∙ ap (λ (r : Maps). with_entries near₀ r.near) e)
+        (i.near_grown.kept ∙ ap (λ (r : Maps). with_entries near₀ r.near) e)
         (i.far-grown.kept ∙ ap (λ (r : Maps). with_entries far₀ r.far) e)
 
     module _ (key : RegisterKey) (is : key ≡ key_at s k) (near' : Registers) (b : Becomes near near' (put (keyed key v) (entries_of near))) (h : k < c) where
@@ -109,31 +109,31 @@ module _ (s : List ℕ) (v c : ℕ) (near₀ far₀ : Registers) where
       unfolding count_from
       turn = let z : c - k ≡ suc (c - (k + 1)) = omega arith in rw z at i.same
 
-      put-near : Becomes near near' (put (entry_of s v k) (entries_of near))
-      put-near = subst (λ (key : RegisterKey). Becomes near near' (put (keyed key v) (entries_of near))) is b
+      put_near : Becomes near near' (put (entry_of s v k) (entries_of near))
+      put_near = subst (λ (key : RegisterKey). Becomes near near' (put (keyed key v) (entries_of near))) is b
 
       pub set_over : 256 < near'.count → BothBecome (Set c) s v near₀ far₀ near' far
       set_over o = both_over (Set c) s v near₀ far₀ near' far (over_near near'.count far.count o)
           (subst (λ (r : Maps). Over r) turn (near_over (set_keys (entry_of s v k ∷ rest s v c k) (maps_of near far))
-          (omega (arith, becomes_over near near' _ put-near o, set_puts (entry_of s v k) (rest s v c k) (maps_of near far)))))
+          (omega (arith, becomes_over near near' _ put_near o, set_puts (entry_of s v k) (rest s v c k) (maps_of near far)))))
 
       module _ (room : near'.count ≤ 256) where
         fits_near : ltb 256 near'.count ≡ false
         fits_near = le-ltb 256 near'.count room
 
         near_next : Grown near₀ near'
-        near_next = grown-put near₀ near near' i.near-grown (entry_of s v k) put-near fits_near
+        near_next = grown-put near₀ near near' i.near_grown (entry_of s v k) put_near fits_near
 
         near_entries : entries_of near' ≡ put (entry_of s v k) (entries_of near)
-        near_entries = entries_put near₀ near near' i.near-grown (entry_of s v k) put-near fits_near
+        near_entries = entries_put near₀ near near' i.near_grown (entry_of s v k) put_near fits_near
 
         pub set_known : near'.count ≤ near.count → Setting near' far (k + 1)
         set_known m = record {
           low = omega arith;
-          near-grown = near_next;
+          near_grown = near_next;
           far-grown = i.far-grown;
           same = ap (λ (l : List Entry). set_keys (rest s v c k) (record { near = l; far = entries_of far })) near_entries
-              ∙ sym (set_step-has (entry_of s v k) _ (maps_of near far) (count_same near₀ near near' i.near-grown (entry_of s v k) put-near fits_near m))
+              ∙ sym (set_step-has (entry_of s v k) _ (maps_of near far) (count_same near₀ near near' i.near_grown (entry_of s v k) put_near fits_near m))
               ∙ turn;
         }
 
@@ -142,7 +142,7 @@ module _ (s : List ℕ) (v c : ℕ) (near₀ far₀ : Registers) where
           put-far = subst (λ (key : RegisterKey). Becomes far far' (put (keyed key v) (entries_of far))) is bf
 
           was_new : has_key (entry_of s v k) (entries_of near) ≡ false
-          was_new = count_more near₀ near near' i.near-grown (entry_of s v k) put-near fits_near m
+          was_new = count_more near₀ near near' i.near_grown (entry_of s v k) put_near fits_near m
 
           both : set_keys (rest s v c k) (put_both (entry_of s v k) near far)
               ≡ set_keys (entries_from s v c 0) (maps_of near₀ far₀)
@@ -156,7 +156,7 @@ module _ (s : List ℕ) (v c : ℕ) (near₀ far₀ : Registers) where
           pub set_new : far'.count ≤ 256 → Setting near' far' (k + 1)
           set_new n = record {
             low = omega arith;
-            near-grown = near_next;
+            near_grown = near_next;
             far-grown = grown-put far₀ far far' i.far-grown (entry_of s v k) put-far (le-ltb 256 far'.count n);
             same = ap (λ (l : List Entry). set_keys (rest s v c k) (record { near = l; far = entries_of far' })) near_entries
                 ∙ ap (λ (l : List Entry). set_keys (rest s v c k) (record { near = put (entry_of s v k) (entries_of near); far = l }))

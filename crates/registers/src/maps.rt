@@ -2,7 +2,7 @@
 // read. Of a list the links are made first: they check the records, and the maps are made of those that they accept.
 ghost use Rattle.std.specs.Prelude.{◌≡◌, ◌&&◌, ◌||◌, ◌≤◌, ltb, length};
 ghost use Rattle.graph.specs.Soundness.{register_map_rule};
-ghost use Rattle.links.specs.Links.{rule_if};
+ghost use Rattle.links.specs.Links.{rule_of};
 ghost use Rattle.registers.specs.Registers.{registers_of, maps_stopped, maps_kept, enter_records, register_records, register_record};
 ghost use Rattle.registers.specs.RegisterMaps.{registers};
 
@@ -10,7 +10,7 @@ use crate::entries::{EndCounts, enter_record};
 use crate::{Registered, RegisteredRecords};
 use file::{InvolvedClassical, Outcome, Parsed, Refusal};
 use graph::{NodeIndex, Registers};
-use links::FarRule;
+use links::LoadingRule;
 
 // Whether a register map would pass 256.
 fn maps_pass(m: EndCounts) -> bool
@@ -141,8 +141,8 @@ fn enter_records(file: &[u8], order: &[u16]) -> Registered
 // The file's records with these numbers, one after the other, as nodes 0, 1, 2, ..: the links refuse 2, 1, 8, 3 where
 // the file has a record not, then 4, 12, 5, 6, the maps 7. The maps see only the records before the links' first
 // refusal, so that theirs, if there is one, is the earlier.
-pub fn register_records(rule: FarRule, file: &[u8], order: &[u16]) -> RegisteredRecords
-    ensures { result ≡ register_records (rule_if rule) file.now order.now }
+pub fn register_records(rule: LoadingRule, file: &[u8], order: &[u16]) -> RegisteredRecords
+    ensures { result ≡ register_records (rule_of rule) file.now order.now }
 {
     let linked = links::link_records(rule, file, order);
     let start: usize = 0;

@@ -8,8 +8,7 @@ use Rattle.file.specs.Refusals.{number_of, value_of}
 use Rattle.graph.specs.declared.CircuitDag.{CircuitDag}
 use Rattle.file.specs.declared.Outcome.TheVariants.{Done, Refused}
 use Rattle.insertion.specs.declared.Loaded.{Loaded}
-use Rattle.insertion.specs.declared.LoadingRule.{LoadingRule}
-use Rattle.insertion.specs.declared.LoadingRule.TheVariants.{NearAll}
+use Rattle.links.specs.Links.{LoadingRule, NearAll}
 use Rattle.insertion.specs.Load.{load_by}
 use Rattle.walk.specs.Blocks.{blocks}
 use Rattle.report.specs.declared.Text.{Text}

@@ -8,7 +8,7 @@ ghost use Rattle.report.specs.Text.{digits, nodes_text, line_text, count_text, a
 use crate::Text;
 use file::{Refusal, RefusalValue};
 use graph::NodeIndex;
-use insertion::LoadingRule;
+use links::LoadingRule;
 use walk::BlockCount;
 
 // The character of a digit.
@@ -215,5 +215,5 @@ pub fn blocks_text(file: &[u8]) -> Text
     ensures value { result ≡ text_of (file_text file.now) }
     ensures length_in_bounds { result.length ≤ length result.bytes }
 {
-    blocks_text_by(LoadingRule::NearAll, file)
+    blocks_text_by(links::NEAR_ALL, file)
 }

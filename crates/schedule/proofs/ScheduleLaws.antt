@@ -29,8 +29,7 @@ use Rattle.graph.proofs.ListLaws.{at_all, up_to_all, map_at}
 use Rattle.insertion.specs.declared.Answer.{Answer}
 use Rattle.insertion.specs.declared.Answer.TheVariants.{Node, Refused as NotInserted}
 use Rattle.insertion.specs.declared.Loaded.{Loaded}
-use Rattle.insertion.specs.declared.LoadingRule.{LoadingRule}
-use Rattle.insertion.specs.declared.LoadingRule.TheVariants.{NearAll, FarAll}
+use Rattle.links.specs.Links.{LoadingRule, NearAll, FarAll}
 use Rattle.insertion.specs.Limits.{accepts, insert_by}
 use Rattle.insertion.specs.Load.{load_by}
 use Rattle.insertion.specs.Calls.{Call, graph_after, all_by, final_by}

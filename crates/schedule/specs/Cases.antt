@@ -3,7 +3,7 @@
 use Rattle.std.specs.Prelude.{◌≡◌, List, [], ◌∷◌, ◌++◌, ℕ}
 use Rattle.file.specs.declared.Refusal.TheVariants.{ShortBuffer, EmptySet}
 use Rattle.walk.specs.declared.BlockCount.TheVariants.{Blocks, Refused}
-use Rattle.insertion.specs.declared.LoadingRule.TheVariants.{FarAll}
+use Rattle.links.specs.Links.{FarAll}
 use Rattle.schedule.specs.Schedule.{schedule_by, schedule, Condition}
 
 -- an ordinary record without registers, label 0: end, qubit form, and a mask below 256

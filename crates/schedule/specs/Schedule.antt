@@ -8,8 +8,7 @@ use Rattle.file.specs.declared.Refusal.{Refusal}
 use Rattle.file.specs.declared.Refusal.TheVariants.{ShortBuffer}
 use Rattle.file.specs.declared.Outcome.TheVariants.{Done, Refused as NotLoaded}
 use Rattle.insertion.specs.declared.Loaded.{Loaded}
-use Rattle.insertion.specs.declared.LoadingRule.{LoadingRule}
-use Rattle.insertion.specs.declared.LoadingRule.TheVariants.{NearAll, FarAll}
+use Rattle.links.specs.Links.{LoadingRule, NearAll, FarAll}
 use Rattle.insertion.specs.Load.{load_by}
 use Rattle.walk.specs.declared.BlockCount.TheVariants.{Refused}
 use Rattle.walk.specs.Blocks.{Walked, whole_walk, block_of_step}

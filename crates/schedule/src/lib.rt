@@ -3,12 +3,12 @@
 
 ghost use Rattle.std.specs.Prelude.{◌≡◌, ℕ};
 ghost use Rattle.file.specs.declared.Refusal.{Refusal};
-ghost use Rattle.insertion.specs.declared.LoadingRule.TheVariants.{NearAll, FarAll};
+ghost use Rattle.links.specs.Links.{NearAll, FarAll};
 ghost use Rattle.schedule.specs.Schedule.{schedule_by, Condition, Meets, Scheduled, NotScheduled};
 ghost use Rattle.schedule.specs.Schedule.{schedule as scheduleOf};
 
 use file::Outcome;
-use insertion::LoadingRule;
+use links::LoadingRule;
 use walk::BlockCount;
 
 // The block number of each of the file's records, loaded in either way, to the lent buffer; the answer is how many blocks
@@ -33,7 +33,7 @@ pub fn schedule(file: &[u8], buffer: &mut [u16]) -> BlockCount
     ensures by_index { (k : ℕ) → result ≡ BlockCount.Blocks k → Condition file.now → Scheduled NearAll file.now k buffer.new }
     ensures not_scheduled { (c : Refusal) → result ≡ BlockCount.Refused c → NotScheduled NearAll file.now buffer.old c buffer.new }
 {
-    schedule_by(LoadingRule::NearAll, file, buffer)
+    schedule_by(links::NEAR_ALL, file, buffer)
 }
 
 // In K6's way: the promise is of every file.
@@ -42,5 +42,5 @@ pub fn schedule_both_ends(file: &[u8], buffer: &mut [u16]) -> BlockCount
     ensures by_index { (k : ℕ) → result ≡ BlockCount.Blocks k → Scheduled FarAll file.now k buffer.new }
     ensures not_scheduled { (c : Refusal) → result ≡ BlockCount.Refused c → NotScheduled FarAll file.now buffer.old c buffer.new }
 {
-    schedule_by(LoadingRule::FarAll, file, buffer)
+    schedule_by(links::FAR_ALL, file, buffer)
 }

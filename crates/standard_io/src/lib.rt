@@ -2,10 +2,10 @@
 #![tactic(auto)]
 
 ghost use Rattle.std.specs.Prelude.{◌≤◌};
-ghost use Rattle.insertion.specs.declared.LoadingRule.TheVariants.{NearAll};
+ghost use Rattle.links.specs.Links.{NearAll};
 ghost use Rattle.standard_io.specs.Printing.{Printed};
 
-use insertion::LoadingRule;
+use links::LoadingRule;
 use report::Text;
 use std::io::Read;
 
@@ -43,5 +43,5 @@ pub fn print_blocks_by(rt: &(impl Input + Print), rule: LoadingRule) -> Text
 pub fn print_blocks(rt: &(impl Input + Print)) -> Text
     ensures { Printed NearAll result }
 {
-    print_blocks_by(rt, LoadingRule::NearAll)
+    print_blocks_by(rt, links::NEAR_ALL)
 }

@@ -16,4 +16,4 @@ returns-in-Refused c = c.not_loaded.ensures ∙ bad_file _ _ _ (sym c.check_file
 pub returns-in-Sound : goal.returns-in-Sound
 returns-in-Sound c =
     c.insert_in_order.ensures ∙ whole _ _ _ c.file_order-order.ensures c.record_count-n.ensures
-    (sym c.check_file-found.ensures ∙ c.in-Sound.is) _ _ c.far_rule-far.ensures
+    (sym c.check_file-found.ensures ∙ c.in-Sound.is) _

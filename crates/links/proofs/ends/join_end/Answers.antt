@@ -1,4 +1,4 @@
-use Rattle.links.specs.Links.{rule_if}
+use Rattle.links.specs.Links.{rule_of}
 use Rattle.links.proofs.JoinLaws.{joined_nothing}
 use Rattle.links.proofs.ends.join_end.Goals as goal
 
@@ -20,7 +20,7 @@ join_set-requires c = c.requires
 pub returns-in-None : goal.returns-in-None
 returns-in-None c =
     let p = c.requires in
-    rw c.in-None.is (joined_nothing (rule_if c.args.rule) _ _ _ _ _ _ _ _ p.2 p.3 p.1)
+    rw c.in-None.is (joined_nothing (rule_of c.args.rule) _ _ _ _ _ _ _ _ p.2 p.3 p.1)
 
 pub returns-in-All : goal.returns-in-All
 returns-in-All c = rw c.in-All.is c.join_all.ensures

@@ -1,6 +1,6 @@
 use Prim.Native.Nat.{◌≤◌}
 use native.Mathlib.Omega.{arith}
-use Rattle.links.specs.Links.{rule_if}
+use Rattle.links.specs.Links.{rule_of}
 use Rattle.links.proofs.LinkLaws.{names_all}
 use Rattle.links.proofs.JoinLaws.{fits_more, joined_set}
 use Rattle.links.proofs.ends.join_set.Goals as goal
@@ -25,7 +25,7 @@ pub returns : goal.returns
 returns c =
     let p = c.requires in
     let t = c.mask_top-t.ensures in
-    joined_set (rule_if c.args.rule) (names_all c.args.rule) _ _ (omega arith) p.0 _ _ _ _ _ _ p.2 p.3 _ _ _ _ _ _ _ _ _ _
+    joined_set (rule_of c.args.rule) (names_all c.args.rule) _ _ (omega arith) p.0 _ _ _ _ _ _ p.2 p.3 _ _ _ _ _ _ _ _ _ _
     c.fresh_entry-fresh.ensures
     c.link_set-k.ensures
     t.0

@@ -9,7 +9,7 @@ loop-i-init c = meets_none _ _ _ _ c.requires
 
 pub bounds-r-a : goal.bounds-r-a
 bounds-r-a c =
-    let near-low : c.to_index-a.result < 512 = omega (arith, c.loop-i.invariant.ends.near-below c.loop-i.i c.loop-i-test.true, c.to_index-a.ensures) in
+    let near-low : c.to_index-a.result < 512 = omega (arith, c.loop-i.invariant.ends.near_below c.loop-i.i c.loop-i-test.true, c.to_index-a.ensures) in
     near-low
 
 pub bounds-skip-b : goal.bounds-skip-b
@@ -19,7 +19,7 @@ bounds-skip-b c =
 
 pub bounds-r-a-in-loop-i : goal.bounds-r-a-in-loop-i
 bounds-r-a-in-loop-i c =
-    let near-low : c.to_index-a.result < 512 = omega (arith, c.loop-i.invariant.ends.near-below c.loop-i.i c.loop-i-test.true, c.to_index-a.ensures) in
+    let near-low : c.to_index-a.result < 512 = omega (arith, c.loop-i.invariant.ends.near_below c.loop-i.i c.loop-i-test.true, c.to_index-a.ensures) in
     near-low
 
 pub loop-i-preserved : goal.loop-i-preserved

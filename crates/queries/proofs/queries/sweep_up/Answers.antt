@@ -12,7 +12,7 @@ loop-i-init c = sweeps_none _ _ _ _ c.requires.0 c.requires.1 0 (omega arith)
 
 pub bounds-mark-a : goal.bounds-mark-a
 bounds-mark-a c =
-    let near-low : c.to_index-a.result < 512 = omega (arith, c.loop-i.invariant.ends.near-below c.loop-i.i c.loop-i-test.true, c.to_index-a.ensures) in
+    let near-low : c.to_index-a.result < 512 = omega (arith, c.loop-i.invariant.ends.near_below c.loop-i.i c.loop-i-test.true, c.to_index-a.ensures) in
     near-low
 
 pub bounds-mark-b : goal.bounds-mark-b
@@ -22,7 +22,7 @@ bounds-mark-b c =
 
 pub bounds-mark-a-in-loop-i : goal.bounds-mark-a-in-loop-i
 bounds-mark-a-in-loop-i c =
-    let near-low : c.to_index-a.result < 512 = omega (arith, c.loop-i.invariant.ends.near-below c.loop-i.i c.loop-i-test.true, c.to_index-a.ensures) in
+    let near-low : c.to_index-a.result < 512 = omega (arith, c.loop-i.invariant.ends.near_below c.loop-i.i c.loop-i-test.true, c.to_index-a.ensures) in
     near-low
 
 pub loop-i-preserved : goal.loop-i-preserved

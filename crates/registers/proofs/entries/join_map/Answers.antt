@@ -1,5 +1,5 @@
 use Rattle.file.specs.declared.InvolvedClassical.TheVariants.{All, AllQubits}
-use Rattle.registers.proofs.RegisterLaws.{map_same, map-near, map-far, map_defined}
+use Rattle.registers.proofs.RegisterLaws.{map_same, map_near, map-far, map_defined}
 use mathlib.Core.Path.{sym, ◌∙◌, ap}
 use mathlib.Core.Logic.{inl, inr}
 use Rattle.registers.proofs.entries.join_map.Goals as goal
@@ -26,7 +26,7 @@ pub returns-in-Definition : goal.returns-in-Definition
 returns-in-Definition c = let a = c.args in map_defined a.classical a.near a.v.0 _ _ _ _ c.in-Definition.is c.define_keys.ensures
 
 pub returns-then-near : goal.returns-then-near
-returns-then-near c = let a = c.args in map-near a.classical a.near a.v.0 _ c.in-All.n c.in-All.is _ c.if-near.true c.keep_name.ensures
+returns-then-near c = let a = c.args in map_near a.classical a.near a.v.0 _ c.in-All.n c.in-All.is _ c.if-near.true c.keep_name.ensures
 
 pub returns-else-near : goal.returns-else-near
 returns-else-near c = let a = c.args in map-far a.classical a.near a.v.0 _ c.in-All.n c.in-All.is c.if-near.false c.requires

@@ -7,7 +7,7 @@ pub loop-k-init : goal.loop-k-init
 loop-k-init c = set_begin _ _ _ _ _ c.requires.0 c.requires.1
 
 pub put_key-n-requires : goal.put_key-n-requires
-put_key-n-requires c = c.loop-k.invariant.near-grown.fits
+put_key-n-requires c = c.loop-k.invariant.near_grown.fits
 
 pub returns-then-n-gt256 : goal.returns-then-n-gt256
 returns-then-n-gt256 c =
