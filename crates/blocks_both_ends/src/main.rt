@@ -1,8 +1,6 @@
 // The blocks of a circuit file that is loaded in K6's way.
 #![tactic(auto)]
 
-use links::LoadingRule;
-
 fn main(rt: HostRuntime) {
     standard_io::print_blocks_by(&rt, links::FAR_ALL);
 }

@@ -6,7 +6,8 @@
 
 use file::{FileCheck, Outcome, Refusal, RefusalValue};
 use graph::{CircuitDag, NodeIndex};
-use insertion::{Answer, LoadingRule};
+use insertion::Answer;
+use links::LoadingRule;
 use queries::Query;
 use std::io::{self, Read};
 use walk::BlockCount;

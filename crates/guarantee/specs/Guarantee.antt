@@ -1,5 +1,5 @@
--- Demand 3, the statement: "a single claim about the whole list, not one for each call"; and K6's, the same without the condition on all-qubit
--- operations. Everything they say is in this file and in the rules it names. Assumes nothing.
+-- Demand 3, the statement: "a single claim about the whole list, not one for each call". Everything it says is in this file and in the rules it names.
+-- Assumes nothing.
 use Rattle.std.specs.Prelude.{◌≡◌, Bool, true, false, cond, not, ◌||◌, List, [], ◌∷◌, ◌++◌, map, ℕ, ◌+◌, ◌≤◌, ◌<◌, ltb, eqb, ℤ, pos, negsuc, length, get_or}
 use Rattle.std.specs.Int.Signed.{lt_z}
 use Rattle.file.specs.Lists.{any_of, all_of, keep, member, add}
@@ -9,7 +9,7 @@ use Rattle.graph.specs.declared.NodeIndex.{NodeIndex}
 use Rattle.graph.specs.declared.CircuitDag.{CircuitDag}
 use Rattle.insertion.specs.declared.Answer.TheVariants.{Node, Refused}
 use Rattle.graph.specs.Dag.{absent, empty, size}
-use Rattle.links.specs.Links.{qubits, LoadingRule, NearAll, FarAll, rule_of}
+use Rattle.links.specs.Links.{LoadingRule, NearAll, FarAll, rule_of, qubits}
 use Rattle.insertion.specs.Limits.{insert_as, insert_by}
 use Rattle.insertion.specs.Calls.{Call, built, all_by, final_by}
 use Rattle.walk.specs.declared.BlockCount.TheVariants.{Blocks, Refused as NotWalked}
@@ -47,7 +47,7 @@ takes_qubits s = takes_all s || eqb (qubit_form s) 2
 abbrev pub operations : List Call → List Accepted
 operations l = keep (λ (o : Accepted). takes_qubits o.bytes) (accepted l)
 
--- K2: "Refuse such a record": of every list of insertions, in either way, no accepted record has an empty set
+-- K2: "Refuse such a record": of every list of insertions, by either rule, no accepted record has an empty set
 abbrev pub NoEmptySet : Type 0
 NoEmptySet = (l : List Call) → any_of (λ (o : Accepted). empty_set o.bytes) (accepted l) ≡ false
 
@@ -122,7 +122,7 @@ pub record Guarantee (l : List Call) (buffer : List ℕ) : Type 0 where
   pub fewest : (rival : ℕ → ℕ) → Orders rival (operations l)
       → filled l buffer ≤ different (map rival (map (λ (o : Accepted). o.node) (operations l))) []
 
--- For every list of records, inserted in one way, that meets a condition: "On the final graph the whole walk is refused only for a short buffer.
+-- For every list of records, inserted by one rule, that meets a condition: "On the final graph the whole walk is refused only for a short buffer.
 -- Otherwise ..": the guarantee above holds.
 pub record Guaranteed (rule : LoadingRule) (Meets : List (List ℕ) → Type 0) : Type 0 where
   pub short : (l : List (List ℕ)) (buffer : List ℕ) → Meets l → length buffer < size (final_by rule l)

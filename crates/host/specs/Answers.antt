@@ -29,7 +29,7 @@ use Rattle.walk.specs.declared.BlockCount.{BlockCount}
 use Rattle.walk.specs.declared.BlockCount.TheVariants.{Blocks, Refused as NotWalked}
 use Rattle.graph.specs.declared.CircuitDag.{CircuitDag}
 use Rattle.graph.specs.Soundness.{sound}
-use Rattle.links.specs.Links.{LoadingRule}
+use Rattle.links.specs.Links.{LoadingRule, NearAll}
 use Rattle.insertion.specs.Limits.{insert_by}
 use Rattle.walk.specs.Blocks.{Stepped, Walked, next}
 use Rattle.host.specs.declared.HostAnswer.{HostAnswer}
@@ -125,8 +125,12 @@ abbrev pub graph_loaded : Loaded → HostGraph
 graph_loaded x = record { answer = of_loaded x.answer; graph = host_of x.graph }
 
 -- an insertion into what came, in either way: bytes that are no marks are refused 11 and come back
-abbrev pub inserted_into : LoadingRule → HostDag → List ℕ → HostGraph
-inserted_into rule d part = cond (is_dag d) (graph_inserted (insert_by rule (dag_of d) part)) (record { answer = refuses Unsound; graph = d })
+abbrev pub inserted_by : LoadingRule → HostDag → List ℕ → HostGraph
+inserted_by rule d part = cond (is_dag d) (graph_inserted (insert_by rule (dag_of d) part)) (record { answer = refuses Unsound; graph = d })
+
+-- .. in document 01's way
+abbrev pub inserted_into : HostDag → List ℕ → HostGraph
+inserted_into d part = inserted_by NearAll d part
 
 -- the answer, and the lent buffer afterwards
 pub record HostLent : Type 0 where

@@ -2,9 +2,9 @@
 // function returned would be copied once more, a tenth of the instructions of a load of 64 records.
 ghost use Rattle.std.specs.Prelude.{◌≡◌};
 ghost use Rattle.graph.specs.Dag.{empty};
-ghost use Rattle.links.specs.Links.{NearAll, FarAll};
+ghost use Rattle.links.specs.Links.{FarAll};
 ghost use Rattle.insertion.specs.Load.{load_by, load};
-ghost use Rattle.host.specs.Answers.{graph_loaded, inserted_into};
+ghost use Rattle.host.specs.Answers.{graph_loaded, inserted_into, inserted_by};
 ghost use Rattle.host.specs.Marks.{host_of, host_sound};
 
 use crate::answers::{of_inserted, of_loaded, refuse};
@@ -50,7 +50,7 @@ pub extern "C" fn sawhekonu_load_both_ends(file: &[u8]) -> HostGraph
 
 // The graph after a record.
 fn insert_record(rule: LoadingRule, dag: HostDag, part: &[u8]) -> HostGraph
-    ensures { result ≡ inserted_into rule dag part.now }
+    ensures { result ≡ inserted_by rule dag part.now }
 {
     if !is_dag(dag) {
         return HostGraph {
@@ -69,14 +69,14 @@ fn insert_record(rule: LoadingRule, dag: HostDag, part: &[u8]) -> HostGraph
 
 #[unsafe(no_mangle)]
 pub extern "C" fn sawhekonu_insert(dag: HostDag, part: &[u8]) -> HostGraph
-    ensures { result ≡ inserted_into NearAll dag part.now }
+    ensures { result ≡ inserted_into dag part.now }
 {
     insert_record(links::NEAR_ALL, dag, part)
 }
 
 #[unsafe(no_mangle)]
 pub extern "C" fn sawhekonu_insert_both_ends(dag: HostDag, part: &[u8]) -> HostGraph
-    ensures { result ≡ inserted_into FarAll dag part.now }
+    ensures { result ≡ inserted_by FarAll dag part.now }
 {
     insert_record(links::FAR_ALL, dag, part)
 }

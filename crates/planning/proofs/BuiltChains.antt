@@ -1,6 +1,6 @@
 -- The chain of a built graph: its nodes are accepted qubit operations, and each clashes with the next. With that, the whole statement of
 -- specs/Chains.antt. Assumes nothing.
-use mathlib.Core.Path.{◌≡◌, refl, sym, ◌∙◌, ap}
+use mathlib.Core.Path.{◌≡◌, refl, sym, ◌∙◌, ap, subst}
 use mathlib.Core.Bool.{Bool, true}
 use mathlib.Core.List.{List, [], ◌∷◌}
 use Prim.Native.Nat.{ℕ, zero, suc, ◌<◌}
@@ -9,7 +9,8 @@ use lib.ListN.{length, get_or, get_or-map}
 use Rattle.graph.specs.declared.CircuitDag.{CircuitDag}
 use Rattle.graph.specs.Dag.{absent, size, empty}
 use Rattle.graph.specs.Soundness.{sound}
-use Rattle.insertion.specs.Calls.{Call, bytes_of, built}
+use Rattle.links.specs.Links.{LoadingRule}
+use Rattle.insertion.specs.Calls.{Call, bytes_of, built, all_by}
 use Rattle.insertion.proofs.BuiltLaws.{sound-built}
 use Rattle.walk.specs.Blocks.{blocks}
 use Rattle.guarantee.specs.Guarantee.{Accepted, accepted, takes_qubits, clash, Bytes}
@@ -87,6 +88,14 @@ module _ (calls : List Call) (bytes : Bytes (bytes_of calls)) where
     clashing = consecutive_map (λ v u. E g s u v) (λ v u. clash (record_of calls u) (record_of calls v)) edge-clash (chain_of g) (sound-chain g s).joined;
   }
 
+-- insertions by one rule have the records of their list
+bytes_back : (rule : LoadingRule) (l : List (List ℕ)) → bytes_of (all_by rule l) ≡ l
+bytes_back rule [] = refl
+bytes_back rule (s ∷ l) = ap (λ (t : List (List ℕ)). s ∷ t) (bytes_back rule l)
+
+by_rule : (rule : LoadingRule) (l : List (List ℕ)) → Bytes l → BuiltChain (all_by rule l)
+by_rule rule l h = built-chain (all_by rule l) (subst Bytes (sym (bytes_back rule l)) h)
+
 -- every chain
 pub chains : Chains
-chains = record { of_sound = sound-chain; of_built = built-chain }
+chains = record { of_sound = sound-chain; of_built = by_rule; of_mixed = built-chain }

@@ -4,7 +4,8 @@ use Rattle.std.specs.Prelude.{◌≡◌, Bool, true, List, [], ◌∷◌, map, �
 use Rattle.graph.specs.declared.CircuitDag.{CircuitDag}
 use Rattle.graph.specs.Dag.{absent, size, has_edge}
 use Rattle.graph.specs.Soundness.{sound}
-use Rattle.insertion.specs.Calls.{Call, bytes_of, built}
+use Rattle.links.specs.Links.{LoadingRule}
+use Rattle.insertion.specs.Calls.{Call, bytes_of, built, all_by}
 use Rattle.walk.specs.declared.BlockCount.TheVariants.{Blocks}
 use Rattle.walk.specs.Blocks.{block_numbers, whole_walk}
 use Rattle.guarantee.specs.Guarantee.{Accepted, accepted, takes_qubits, clash, Bytes}
@@ -36,8 +37,10 @@ pub record BuiltChain (l : List Call) : Type 0 where
   -- Each clashes with the next, by what their records take: a schedule that keeps clashing operations in order has a block for each.
   pub clashing : Consecutive (λ v u. clash (record_of l u) (record_of l v)) (chain_of (built l))
 
--- For every sound graph; and for every list of insertions on the empty graph, each in either way, refused ones included, with no condition but that the
+-- For every sound graph; and for every list of insertions by one rule on the empty graph, refused ones included, with no condition but that the
 -- records are bytes.
 pub record Chains : Type 0 where
   pub of_sound : (g : CircuitDag) → sound g ≡ true → SoundChain g
-  pub of_built : (l : List Call) → Bytes (bytes_of l) → BuiltChain l
+  pub of_built : (rule : LoadingRule) (l : List (List ℕ)) → Bytes l → BuiltChain (all_by rule l)
+  -- K6: and of every such list that mixes the two ways
+  pub of_mixed : (l : List Call) → Bytes (bytes_of l) → BuiltChain l

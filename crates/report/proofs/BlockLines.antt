@@ -34,7 +34,7 @@ use Rattle.walk.proofs.BlockSteps.{sound-within}
 use Rattle.walk.proofs.BlockLaws.{nth_block}
 use Rattle.walk.proofs.StepLaws.{marked_keep}
 use Rattle.walk.proofs.IterationLaws.{next_iterated}
-use Rattle.schedule.specs.Schedule.{schedule_by, NotScheduled}
+use Rattle.schedule.specs.Schedule.{schedule_by, NotScheduledBy}
 use Rattle.schedule.proofs.ScheduleLaws.{walks, refuses, size_loaded, sound_loaded}
 use Rattle.report.specs.Lines.{in_block, lines_by, numbers_text}
 use Rattle.report.specs.Text.{decimal, line_text, lines_text, count_text, blocks_text, refused_text, loaded_text, file_text_by, text_of}
@@ -170,7 +170,7 @@ module _ (rule : LoadingRule) (s : List ℕ) (bytes : (i : ℕ) → get_or s i 0
         ∙ ap (λ (l : List ℕ). count_text (length (blocks (load_by rule s).graph)) ++ l) (blocks_lines (load_by rule s).graph g-sound buffer room)
         ∙ sym (loaded_done (load_by rule s) done)
 
-  pub refusal_text : (c : Refusal) → NotScheduled rule s buffer c written → refused_text c ≡ file_text_by rule s
+  pub refusal_text : (c : Refusal) → NotScheduledBy rule s buffer c written → refused_text c ≡ file_text_by rule s
   refusal_text c n = ⊎_elim
       (λ (d : (load_by rule s).answer ≡ NotLoaded c). sym (loaded_refused (load_by rule s) c d))
       (λ (d : ((load_by rule s).answer ≡ Done) × (c ≡ ShortBuffer) × (length buffer < count_of s)).

@@ -46,7 +46,7 @@ use Rattle.walk.proofs.BlockSteps.{empty-not}
 use Rattle.walk.proofs.BlockLaws.{past_last}
 use Rattle.guarantee.proofs.DemandLaws.{demand_3, both_ends}
 use Rattle.walk.proofs.WholeLaws.{walk_short, walk_done}
-use Rattle.schedule.specs.Schedule.{walk_loaded, schedule_by, placed_from, placed, pulses, Meets, block_in, Scheduled, NotScheduled, SameNumbers}
+use Rattle.schedule.specs.Schedule.{walk_loaded, schedule_by, placed_from, placed, pulses, Meets, block_in, ScheduledBy, NotScheduledBy, SameNumbers}
 
 -- ---- by the load's answer
 
@@ -184,7 +184,7 @@ module _ (rule : LoadingRule) (s : List ℕ) (bytes : (i : ℕ) → get_or s i 0
               (empty-not _ (ap is_empty (past_last (load_by rule s).graph sound_loaded (block_in numbers v) (omega (arith, blocks_are)))) v))
         ]
 
-        pub scheduled : Scheduled rule s k numbers
+        pub scheduled : ScheduledBy rule s k numbers
         scheduled = record {
           within = each_of _ _ (λ o h. below o.node h) (pulses s) once;
           once = once;
@@ -204,14 +204,14 @@ module _ (rule : LoadingRule) (s : List ℕ) (bytes : (i : ℕ) → get_or s i 0
 -- the guarantee of the file's insertions, where it meets what the way asks
 guarantee : (rule : LoadingRule) (s : List ℕ) → ((i : ℕ) → get_or s i 0 < 256) → (load_by rule s).answer ≡ Done → (buffer : List ℕ) → count_of s ≤ length buffer
     → Meets rule s → Guarantee (all_by rule (records_of s)) buffer
-guarantee NearAll s bytes done buffer room C = demand_3.whole (records_of s) buffer
+guarantee false s bytes done buffer room C = demand_3.whole (records_of s) buffer
     (record {
       bytes = records_bytes NearAll s bytes done;
       one_all = subst (λ (a : List Accepted). any_of (λ (o : Accepted). front o.bytes) a ≡ true → any_of (λ (o : Accepted). not (front o.bytes)) a ≡ true
           → length (keep (λ (o : Accepted). takes_all o.bytes) a) ≤ 1) (sym (pulses_are NearAll s bytes done)) C.one_all;
     })
     (omega (arith, fits NearAll s bytes done buffer room, ap size (graph_is NearAll s bytes done)))
-guarantee FarAll s bytes done buffer room C =
+guarantee true s bytes done buffer room C =
     both_ends.whole (records_of s) buffer (records_bytes FarAll s bytes done)
     (omega (arith, fits FarAll s bytes done buffer room, ap size (graph_is FarAll s bytes done)))
 
@@ -220,7 +220,7 @@ guarantee FarAll s bytes done buffer room C =
 -- what the contract says of the file s, the buffer before and after, and the answer r
 abbrev pub Promised : LoadingRule → List ℕ → List ℕ → BlockCount → List ℕ → Type 0
 Promised rule s before r after = (record { answer = r; buffer = after } ≡ schedule_by rule s before)
-    × (((k : ℕ) → r ≡ Blocks k → Meets rule s → Scheduled rule s k after) × ((c : Refusal) → r ≡ Refused c → NotScheduled rule s before c after))
+    × (((k : ℕ) → r ≡ Blocks k → Meets rule s → ScheduledBy rule s k after) × ((c : Refusal) → r ≡ Refused c → NotScheduledBy rule s before c after))
 
 module _ (rule : LoadingRule) (s : List ℕ) (bytes : (i : ℕ) → get_or s i 0 < 256) (before : List ℕ) (r : BlockCount) (after : List ℕ)
     (w : record { answer = r; buffer = after } ≡ schedule_by rule s before) where
@@ -230,13 +230,13 @@ module _ (rule : LoadingRule) (s : List ℕ) (bytes : (i : ℕ) → get_or s i 0
   buffers : {x : Walked} → schedule_by rule s before ≡ x → after ≡ x.buffer
   buffers e = ap (λ (y : Walked). y.buffer) (w ∙ e)
 
-  blocks_of : (k : ℕ) → r ≡ Blocks k → Meets rule s → Scheduled rule s k after
+  blocks_of : (k : ℕ) → r ≡ Blocks k → Meets rule s → ScheduledBy rule s k after
   blocks_of k e C = go (load_by rule s).answer refl
     where
       refused : (c : Refusal) → r ≡ Refused c → ⊥
       refused c f = let z : ◌≡◌ {A = ℕ} 0 1 = cc in omega arith
 
-      go : (a : Outcome) → (load_by rule s).answer ≡ a → Scheduled rule s k after
+      go : (a : Outcome) → (load_by rule s).answer ≡ a → ScheduledBy rule s k after
       go Done d = elim (dec_lt (length before) (count_of s)) [
         | yes h ↦ absurd (refused ShortBuffer (answers (short_refused rule s bytes d before h)))
         | no h ↦ scheduled rule s bytes d before (omega arith) k after
@@ -245,10 +245,10 @@ module _ (rule : LoadingRule) (s : List ℕ) (bytes : (i : ℕ) → get_or s i 0
       ]
       go (NotLoaded c) d = absurd (refused c (answers (sym (refuses rule s before (load_by rule s) refl c d))))
 
-  refusal_of : (c : Refusal) → r ≡ Refused c → NotScheduled rule s before c after
+  refusal_of : (c : Refusal) → r ≡ Refused c → NotScheduledBy rule s before c after
   refusal_of c e = go (load_by rule s).answer refl
     where
-      go : (a : Outcome) → (load_by rule s).answer ≡ a → NotScheduled rule s before c after
+      go : (a : Outcome) → (load_by rule s).answer ≡ a → NotScheduledBy rule s before c after
       go Done d = elim (dec_lt (length before) (count_of s)) [
         | yes h ↦ let t = short_refused rule s bytes d before h in
             let same : c ≡ ShortBuffer = (let a : r ≡ Refused ShortBuffer = answers t in cc) in

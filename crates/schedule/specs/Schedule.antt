@@ -8,7 +8,7 @@ use Rattle.file.specs.declared.Refusal.{Refusal}
 use Rattle.file.specs.declared.Refusal.TheVariants.{ShortBuffer}
 use Rattle.file.specs.declared.Outcome.TheVariants.{Done, Refused as NotLoaded}
 use Rattle.insertion.specs.declared.Loaded.{Loaded}
-use Rattle.links.specs.Links.{LoadingRule, NearAll, FarAll}
+use Rattle.links.specs.Links.{LoadingRule, NearAll}
 use Rattle.insertion.specs.Load.{load_by}
 use Rattle.walk.specs.declared.BlockCount.TheVariants.{Refused}
 use Rattle.walk.specs.Blocks.{Walked, whole_walk, block_of_step}
@@ -53,8 +53,8 @@ pub record Condition (s : List ℕ) : Type 0 where
 -- what the promise asks of a file: in document 01's way the condition; K6: "holds for every list of insertions, without the condition on all-qubit
 -- operations"
 abbrev pub Meets : LoadingRule → List ℕ → Type 0
-Meets NearAll s = Condition s
-Meets FarAll s = Unit {0}
+Meets false s = Condition s
+Meets true s = Unit {0}
 
 -- ---- the promise
 
@@ -63,7 +63,7 @@ abbrev pub block_in : List ℕ → ℕ → ℕ
 block_in numbers v = get_or numbers v 65535
 
 -- the file s, loaded in a way, has the answer "k blocks", and the buffer holds these numbers
-pub record Scheduled (rule : LoadingRule) (s : List ℕ) (k : ℕ) (numbers : List ℕ) : Type 0 where
+pub record ScheduledBy (rule : LoadingRule) (s : List ℕ) (k : ℕ) (numbers : List ℕ) : Type 0 where
   -- Each pulse is in exactly one of the blocks 0 to k - 1: the one with its number.
   pub within : Each (λ o. block_in numbers o.node < k) (pulses s)
   -- "each accepted qubit operation is in the block of exactly one step, its entry is that step's number, counted from 0"
@@ -81,13 +81,21 @@ pub record Scheduled (rule : LoadingRule) (s : List ℕ) (k : ℕ) (numbers : Li
   -- "The count returned is how many different numbers below 65535 were written."
   pub count : k ≡ different (keep (λ n. ltb n 65535) (map (block_in numbers) (up_to (count_of s)))) []
 
+-- .. in document 01's way
+abbrev pub Scheduled : List ℕ → ℕ → List ℕ → Type 0
+Scheduled s k numbers = ScheduledBy NearAll s k numbers
+
 -- Refused: the buffer is as it was, and either the load is refused for this cause, or the file loads and the buffer has no room for an entry a
 -- record. Refusal 11 never comes.
-pub record NotScheduled (rule : LoadingRule) (s before : List ℕ) (r : Refusal) (after : List ℕ) : Type 0 where
+pub record NotScheduledBy (rule : LoadingRule) (s before : List ℕ) (r : Refusal) (after : List ℕ) : Type 0 where
   pub left : after ≡ before
   pub cause : ((load_by rule s).answer ≡ NotLoaded r) ⊎ (((load_by rule s).answer ≡ Done) × (r ≡ ShortBuffer) × (length before < count_of s))
 
+-- .. in document 01's way
+abbrev pub NotScheduled : List ℕ → List ℕ → Refusal → List ℕ → Type 0
+NotScheduled s before r after = NotScheduledBy NearAll s before r after
+
 -- Two schedules of a file that keep the promise, each in either way, have the same numbers: neither may be lower.
 abbrev pub SameNumbers : Type 0
-SameNumbers = (r t : LoadingRule) (s : List ℕ) (k j : ℕ) (m n : List ℕ) → Scheduled r s k m → Scheduled t s j n
+SameNumbers = (r t : LoadingRule) (s : List ℕ) (k j : ℕ) (m n : List ℕ) → ScheduledBy r s k m → ScheduledBy t s j n
     → (k ≡ j) × Each (λ o. block_in m o.node ≡ block_in n o.node) (placed s)

@@ -2,8 +2,7 @@
 #![tactic(auto)]
 
 ghost use Rattle.std.specs.Prelude.{◌≤◌};
-ghost use Rattle.links.specs.Links.{NearAll};
-ghost use Rattle.standard_io.specs.Printing.{Printed};
+ghost use Rattle.standard_io.specs.Printing.{Printed, PrintedBy};
 
 use links::LoadingRule;
 use report::Text;
@@ -28,7 +27,7 @@ fn read_file(rt: &impl Input, file: &mut [u8; 65536]) -> usize
 // A circuit file on standard input, of which the first 65,536 bytes count, loaded in either way; its blocks, or its refusal, on standard
 // output. The text is returned too, since no contract can speak of what is written, nor of whether it could be.
 pub fn print_blocks_by(rt: &(impl Input + Print), rule: LoadingRule) -> Text
-    ensures { Printed rule result }
+    ensures { PrintedBy rule result }
 {
     let mut file = [0; 65536];
     let n = read_file(rt, &mut file);
@@ -41,7 +40,7 @@ pub fn print_blocks_by(rt: &(impl Input + Print), rule: LoadingRule) -> Text
 
 // The program `blocks`: document 01's way.
 pub fn print_blocks(rt: &(impl Input + Print)) -> Text
-    ensures { Printed NearAll result }
+    ensures { Printed result }
 {
     print_blocks_by(rt, links::NEAR_ALL)
 }
