@@ -10,7 +10,7 @@ use lib.Dec.{ltb, leb}
 use lib.ListN.{length, take, drop, get_or, length-take, length-drop, get_or-eq_default}
 use denote.Ref.{Bor}
 use borrow.Author.Tests.{leb-true, le-leb, lt-leb, ltb-true, ltb-false, lt-ltb, le-ltb}
-use Rattle.file.specs.Pairs.{number_at, offset_of, length_of, count_of, check_pairs, check_file, place_from, locate_record, pair_place, Part, part_of, record_at}
+use Rattle.file.specs.Pairs.{number_at, offset_of, length_of, count_of, check_pairs, check_file, place_from, locate_record, pair_place, Part, record_at}
 use Rattle.file.specs.Tight.{OwnParts}
 use Rattle.file.specs.declared.Refusal.{Refusal}
 use Rattle.file.specs.declared.Refusal.TheVariants.{FileTooShort, TooManyRecords, BadPair, Absent}

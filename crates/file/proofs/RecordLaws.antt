@@ -2,14 +2,14 @@
 use mathlib.Core.Path.{◌≡◌, refl, sym, ap}
 use mathlib.Core.Bool.{Bool, true, false, cond, not, ◌&&◌}
 use mathlib.Core.List.{List, []}
-use mathlib.Core.Logic.{⊎_elim, ◌⊎◌}
+use mathlib.Core.Logic.{⊎_elim}
 use Prim.Native.Nat.{ℕ, suc, ◌+◌, ◌*◌, ◌-◌, ◌<◌, ◌≤◌}
 use native.Mathlib.Omega.{arith}
 use lib.Dec.{leb, eqb}
 use lib.ListN.{length, get_or, get_or-eq_default}
 use borrow.Author.Tests.{eqb-true, eqb-false, ne_eqb, le-leb, lt-leb, leb-true, not-true}
 use Rattle.file.proofs.BoolLaws.{bool_cases, clash_bool, both_true}
-use Rattle.file.specs.Pairs.{number_at, count_of, check_file, offset_of, length_of, part_of, pair_place, record_at}
+use Rattle.file.specs.Pairs.{count_of, check_file, offset_of, length_of, part_of, pair_place, record_at}
 use Rattle.file.specs.Refusals.{number_of, at_record}
 use Rattle.file.specs.Records
 use Rattle.file.proofs.PairLaws.{field_past, pair_there}

@@ -7,16 +7,15 @@ use Prim.Native.Nat.{ℕ, zero, suc, ◌≤◌, ◌<◌}
 use native.Mathlib.Omega.{arith}
 use lib.Dec.{eqb, ltb}
 use lib.Signed.{lt_z}
-use lib.ListN.{length, get_or, drop, get_or-append}
-use borrow.Author.Tests.{eqb-true, eq-eqb, lt-ltb, ltb-true, le-ltb}
-use Rattle.file.specs.Lists.{any_of, all_of, keep, member, onto}
+use lib.ListN.{length, get_or}
+use borrow.Author.Tests.{eqb-true, eq-eqb, lt-ltb, ltb-true}
+use Rattle.file.specs.Lists.{any_of, all_of, keep, member}
 use Rattle.file.specs.Records.{record_rule}
-use Rattle.file.specs.declared.Refusal.TheVariants.{ShortBuffer}
 use Rattle.graph.specs.declared.CircuitDag.{CircuitDag}
-use Rattle.graph.specs.Dag.{absent, size, has_edge, node}
+use Rattle.graph.specs.Dag.{size, has_edge}
 use Rattle.graph.specs.Soundness.{sound}
 use Rattle.file.proofs.BoolLaws.{bool_cases, clash_bool, not-true, bool_ext, and_l, and_r, eqb-flip}
-use Rattle.graph.proofs.ListLaws.{any_here, any-later, keep-any, member-keep, length-up_to, up_to-at}
+use Rattle.graph.proofs.ListLaws.{any_here, any-later, keep-any, member-keep}
 use Rattle.insertion.specs.Calls.{Call, bytes_of, built as builtBy, all_by, final_by}
 use Rattle.insertion.proofs.BuiltLaws.{sound-built}
 use Rattle.insertion.proofs.CaseLaws.{insert_cases}
@@ -25,11 +24,11 @@ use Rattle.links.specs.Links.{FarRule, LoadingRule, NearAll, FarAll, rule_of}
 use Rattle.insertion.specs.declared.Answer.TheVariants.{Node}
 use Rattle.insertion.specs.declared.Inserted.{Inserted}
 use Rattle.insertion.specs.Limits.{insert_as}
-use Rattle.walk.specs.declared.BlockCount.TheVariants.{Blocks, Refused as NotWalked}
-use Rattle.walk.specs.Blocks.{Walked, state_after, block_of_step, blocks, number_from}
+use Rattle.walk.specs.declared.BlockCount.TheVariants.{Blocks}
+use Rattle.walk.specs.Blocks.{Walked, state_after, block_of_step, blocks}
 use Rattle.guarantee.specs.Guarantee.{Accepted, accepted, takes_qubits, operations, Each, Orders, different}
 use Rattle.guarantee.specs.Guarantee.{entry, filled, Bytes, Condition, Guarantee, Guaranteed, Demand3, BothEnds}
-use Rattle.walk.proofs.Bounds.{any, any_elim, any_ext, greatest, greatest_le, count}
+use Rattle.walk.proofs.Bounds.{any, any_elim, any_ext, greatest, greatest_le}
 use Rattle.walk.proofs.Heights.{Guarantee as Numbered, Keeps, block, steps, number, different as differentIn}
 use Rattle.guarantee.proofs.Nets.{Net, Call as NetCall, is_op, clashes, Base, NonEmpties, run, empty}
 use Rattle.guarantee.proofs.NetRuns.{Kept, kept, net_base, far_base}

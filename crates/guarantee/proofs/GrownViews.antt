@@ -9,16 +9,15 @@ use native.Mathlib.Decide.{dec_lt}
 use lib.Dec.{eqb}
 use lib.ListN.{length, get_or, length-map}
 use Rattle.file.specs.Lists.{any_of, member, up_to}
-use Rattle.file.specs.Records.{front, kind, qubit_form, label, qubits_of}
+use Rattle.file.specs.Records.{front, qubits_of}
 use Rattle.graph.specs.declared.Edges.{Edges}
 use Rattle.graph.specs.declared.End.{End}
 use Rattle.graph.specs.declared.CircuitDag.{CircuitDag}
 use Rattle.graph.specs.Dag.{Edge, edge, size, edge_at, same_edge, has_edge, with_edges}
 use Rattle.file.proofs.BoolLaws.{bool_cases, bool_ext, and_intro, or_cases, or_inl, or_inr}
 use Rattle.graph.proofs.ListLaws.{map_at, any_here, any-later, any_at, at-any, any-up_to, up_to-any}
-use Rattle.links.specs.Links.{FarRule, rule_of, link, link_by, LoadingRule}
-use Rattle.registers.specs.Registers.{with_entries}
-use Rattle.insertion.specs.Insertion.{facing, linked, grown_at, grown}
+use Rattle.links.specs.Links.{rule_of, link, link_by, LoadingRule}
+use Rattle.insertion.specs.Insertion.{grown_at, grown}
 use Rattle.insertion.proofs.BuiltLaws.{Safe}
 use Rattle.insertion.proofs.SafeEdges.{appended-old, appended-new}
 use Rattle.guarantee.proofs.LinkViews.{Sees, Fits, take_by, link_sees}

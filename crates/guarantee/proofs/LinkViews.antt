@@ -5,7 +5,7 @@ use mathlib.Core.Bool.{Bool, true, false, cond, not, ◌&&◌, ◌||◌, or-fals
 use mathlib.Core.Logic.{⊎_elim}
 use mathlib.Core.Option.{Option, none, some}
 use mathlib.Core.List.{List, [], ◌∷◌}
-use Prim.Native.Nat.{ℕ, zero, suc, ◌+◌, ◌<◌, ◌/◌, ◌%◌}
+use Prim.Native.Nat.{ℕ, ◌+◌, ◌<◌}
 use native.Mathlib.Omega.{arith}
 use native.Mathlib.Decide.{dec_lt, ℕ_discrete}
 use lib.Dec.{eqb}
@@ -16,10 +16,10 @@ use Rattle.file.specs.Lists.{any_of, distinct, is_empty, member}
 use Rattle.file.specs.declared.InvolvedQubits.{InvolvedQubits}
 use Rattle.file.specs.declared.InvolvedQubits.TheVariants.{None, All, Set}
 use Rattle.graph.specs.declared.End.{End}
-use Rattle.graph.specs.Dag.{absent, present, or_else, node, at_qubit}
-use Rattle.file.proofs.BoolLaws.{bool_cases, clash_bool, not-true, bool_ext, and_l, and_r, and_intro, or_cases, or_inl, or_inr, flip-not, eqb_same, eqb-flip}
+use Rattle.graph.specs.Dag.{absent, present, or_else, at_qubit}
+use Rattle.file.proofs.BoolLaws.{bool_cases, clash_bool, not-true, bool_ext, and_l, and_r, and_intro, or_inl, or_inr, flip-not, eqb_same, eqb-flip}
 use Rattle.graph.proofs.ListLaws.{any_here, any-later, any_at, at-any, any_snoc, distinct_first, distinct-rest}
-use Rattle.links.specs.Links.{Linked, FarRule, rule_of, source, near_after, no_qubit, qubits_from, qubits, link_qubits, link_set, mapped, link_all, link_by}
+use Rattle.links.specs.Links.{Linked, FarRule, rule_of, source, near_after, no_qubit, qubits, link_qubits, link_set, mapped, link_all, link_by}
 use Rattle.links.proofs.QubitLaws.{qubits_ascend}
 use Rattle.links.proofs.LinkLaws.{low_present, qubits_in, add_present, link_one, ascend_distinct, steady_rule, set_entries, set_outside, far_entry}
 use Rattle.graph.proofs.ListLaws.{all_same}

@@ -1,5 +1,5 @@
 -- Two numbers of which the first is 0 accept. Assumes nothing.
-use mathlib.Core.Path.{◌≡◌, refl, ap}
+use mathlib.Core.Path.{◌≡◌, ap}
 use Prim.Native.Nat.{ℕ}
 use native.Mathlib.Omega.{arith}
 use Rattle.file.specs.Refusals.{number_of}

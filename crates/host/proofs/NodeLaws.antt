@@ -1,6 +1,6 @@
 -- A node number past 16 bits is no node's: each query refuses it, 11, then 8. Assumes nothing.
-use mathlib.Core.Path.{◌≡◌, refl, sym}
-use mathlib.Core.Bool.{Bool, true, false, cond, ◌&&◌}
+use mathlib.Core.Path.{◌≡◌, refl}
+use mathlib.Core.Bool.{true, false, ◌&&◌}
 use mathlib.Core.Logic.{⊎_elim}
 use mathlib.Core.List.{List}
 use Prim.Native.Nat.{ℕ, ◌≤◌, ◌<◌}
@@ -12,7 +12,7 @@ use Rattle.accessors.specs.Accessors.{get}
 use Rattle.file.proofs.BoolLaws.{bool_cases, and_l}
 use Rattle.graph.specs.declared.CircuitDag.{CircuitDag}
 use Rattle.graph.specs.Dag.{size}
-use Rattle.graph.specs.Soundness.{counts_fit, sound}
+use Rattle.graph.specs.Soundness.{sound}
 use Rattle.graph.proofs.SoundnessLaws.{sound_clauses}
 use Rattle.queries.specs.Queries.{Lent, refuses, execution_blocked, blocking_predecessors, successors, new_front_layer}
 use Rattle.queries.proofs.QueryLaws.{successors_unsound, successors-absent, blocked_unsound, blocked_absent, predecessors_unsound}

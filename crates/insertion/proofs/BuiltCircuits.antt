@@ -10,7 +10,7 @@ use Rattle.file.specs.declared.FileCheck.TheVariants.{Sound, Refused as BadFile}
 use Rattle.graph.specs.declared.CircuitDag.{CircuitDag}
 use Rattle.graph.specs.Dag.{empty}
 use Rattle.queries.proofs.CircuitTheorems.{circuit_whole, circuit_in_order}
-use Rattle.links.specs.Links.{FarRule, near_all, LoadingRule, NearAll, rule_of}
+use Rattle.links.specs.Links.{FarRule, near_all, LoadingRule, rule_of}
 use Rattle.links.proofs.LinkLaws.{NamesAll, names_all}
 use Rattle.insertion.specs.declared.Answer.{Answer}
 use Rattle.insertion.specs.declared.Answer.TheVariants.{Node, Refused}

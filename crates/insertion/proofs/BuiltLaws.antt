@@ -4,7 +4,7 @@
 use mathlib.Core.Path.{◌≡◌, refl, ◌∙◌, ap, subst, sym}
 use mathlib.Core.Bool.{Bool, true, false, not, ◌||◌, not-not}
 use mathlib.Core.Logic.{inl, inr}
-use mathlib.Core.List.{List, [], ◌∷◌, map}
+use mathlib.Core.List.{List, [], ◌∷◌}
 use Prim.Native.Nat.{ℕ, ◌+◌, ◌≤◌, ◌<◌}
 use native.Mathlib.Omega.{arith}
 use lib.Dec.{ltb, leb}
@@ -19,16 +19,14 @@ use Rattle.insertion.proofs.CaseLaws.{never_unsound, insert_cases}
 use Rattle.graph.specs.declared.End.{End}
 use Rattle.graph.specs.declared.Registers.{Registers}
 use Rattle.graph.specs.declared.CircuitDag.{CircuitDag}
-use Rattle.graph.specs.Dag.{absent, size, node, no_end, no_registers, empty, place_of}
+use Rattle.graph.specs.Dag.{absent, size, no_end, no_registers, empty, place_of}
 use Rattle.graph.specs.Soundness.{place_within, sound}
 use Rattle.graph.proofs.ListLaws.{all_same}
 use Rattle.file.proofs.BoolLaws.{clash_bool, or_l, or_r}
 use Rattle.graph.proofs.SoundnessLaws.{NamesFit, RegistersFit, registers_told, told_sound}
 use Rattle.insertion.specs.declared.Answer.TheVariants.{Refused}
-use Rattle.links.specs.Links.{Linked, FarRule, link, LoadingRule, rule_of}
-use Rattle.registers.specs.Registers.{with_entries}
-use Rattle.insertion.specs.Insertion.{facing, place_after, linked, registered, commutes, with_commuting, extended, grown}
-use Rattle.registers.specs.Registers.{Maps}
+use Rattle.links.specs.Links.{Linked, FarRule, LoadingRule, rule_of}
+use Rattle.insertion.specs.Insertion.{facing, place_after, linked, registered, commutes, extended, grown}
 use Rattle.insertion.specs.Limits.{insert_as, insert_by}
 use Rattle.insertion.specs.Calls.{Call, graph_after, built}
 use Rattle.insertion.specs.Built.{SoundBuilt}

@@ -3,7 +3,7 @@
 -- so that a load makes each in a loop of its own. Assumes nothing.
 use Rattle.std.specs.Prelude.{cond, List, [], ◌∷◌, ℕ, ◌+◌, set}
 use Rattle.file.specs.Pairs.{record_at}
-use Rattle.file.specs.Records.{front, kind, qubit_form, label}
+use Rattle.file.specs.Records.{front}
 use Rattle.graph.specs.declared.CircuitDag.{CircuitDag}
 use Rattle.links.specs.declared.LinkedRecords.{LinkedRecords}
 use Rattle.registers.specs.declared.Registered.{Registered}

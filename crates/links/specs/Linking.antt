@@ -1,5 +1,5 @@
 -- What a list of records, one after the other, does to the ends and edges, and one record on those of a graph. Assumes nothing.
-use Rattle.std.specs.Prelude.{Bool, cond, not, ◌&&◌, List, [], ◌∷◌, map, ℕ, ◌+◌, ltb, leb, length}
+use Rattle.std.specs.Prelude.{Bool, cond, ◌&&◌, List, [], ◌∷◌, map, ℕ, ◌+◌, ltb, leb, length}
 use Rattle.file.specs.Lists.{all_of}
 use Rattle.file.specs.Records.{parse_at}
 use Rattle.file.specs.declared.InvolvedQubits.{InvolvedQubits}

@@ -1,10 +1,9 @@
 -- "Back insertion of node v", qubit by qubit, and the mirror: the two ends and the edges. Assumes nothing.
 -- One text for both ends: near is the end of the insertion (last at the back, first at the front), far the other.
-use Rattle.std.specs.Prelude.{Bool, true, false, cond, not, ◌&&◌, List, [], ◌∷◌, ◌++◌, map, ℕ, zero, suc, ◌+◌, ◌/◌, ◌%◌, eqb, length, set, take, replicate}
-use Rattle.file.specs.Lists.{any_of, cons_if, add, is_empty, onto}
+use Rattle.std.specs.Prelude.{Bool, true, false, cond, not, ◌&&◌, List, [], ◌∷◌, map, ℕ, zero, suc, ◌+◌, ◌/◌, ◌%◌, eqb, length, set, replicate}
+use Rattle.file.specs.Lists.{any_of, cons_if, add, is_empty}
 use Rattle.file.specs.declared.InvolvedQubits.{InvolvedQubits}
 use Rattle.file.specs.declared.InvolvedQubits.TheVariants.{None, All, Set}
-use Rattle.graph.specs.declared.Edges.{Edges}
 use Rattle.graph.specs.declared.End.{End}
 use Rattle.graph.specs.Dag.{Edge, present, or_else, node, edge, at_qubit}
 

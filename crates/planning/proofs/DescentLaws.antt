@@ -25,7 +25,7 @@ use Rattle.walk.specs.declared.BlockCount.{BlockCount}
 use Rattle.walk.specs.declared.BlockCount.TheVariants.{Blocks, Refused as NotWalked}
 use Rattle.walk.specs.Blocks.{Walked, blocks, block_numbers, whole_walk}
 use Rattle.walk.specs.Numbering.{at, Joined}
-use Rattle.walk.proofs.HeightSteps.{block_pred, least, chain_from as leastFrom}
+use Rattle.walk.proofs.HeightSteps.{block_pred, chain_from as leastFrom}
 use Rattle.walk.proofs.BlockSteps.{edge-at, at_edge}
 use Rattle.walk.proofs.BlockLaws.{W, rank, upward, first_start, block_told, blocks_few}
 use Rattle.walk.proofs.NumberLaws.{some_first, block_low}

@@ -1,5 +1,4 @@
 use mathlib.Core.Path.{refl}
-use Prim.Native.Nat.{◌-◌}
 use native.Mathlib.Omega.{arith}
 use Rattle.accessors.proofs.AccessorLaws.{none_searched, not_there, key_here, not_here}
 use Rattle.accessors.proofs.at_key.Goals as goal

@@ -1,7 +1,6 @@
 use Rattle.file.proofs.PairLaws.{bad, next, whole, wrong, over, short, begin}
 use Rattle.file.specs.Pairs.{check_file}
 use borrow.Author.Tests.{lt-ltb}
-use Prim.Native.Nat.{◌-◌}
 use mathlib.Core.Path.{refl}
 use Rattle.file.proofs.pairs.check_file.Goals as goal
 

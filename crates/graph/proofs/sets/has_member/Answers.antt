@@ -1,4 +1,3 @@
-use Prim.Native.Nat.{◌-◌}
 use native.Mathlib.Omega.{arith}
 use Rattle.graph.proofs.CheckLaws.{member-found, member_more, member-none}
 use borrow.Author.Rules.{rules}

@@ -1,4 +1,3 @@
-use Prim.Native.Nat.{◌-◌}
 use native.Mathlib.Omega.{arith}
 use borrow.Author.Rules.{rules}
 use Rattle.graph.proofs.CheckLaws.{entry_falls, entry_above, entry_more, entries_done}

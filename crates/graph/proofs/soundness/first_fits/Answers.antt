@@ -1,5 +1,4 @@
 use mathlib.Core.Path.{refl}
-use Prim.Native.Nat.{◌-◌}
 use native.Mathlib.Omega.{arith}
 use Rattle.file.proofs.BoolLaws.{clash_bool}
 use Rattle.graph.proofs.CheckLaws.{first_more, first_done}

@@ -1,5 +1,4 @@
 use mathlib.Core.Path.{refl, sym, ◌∙◌}
-use Prim.Native.Nat.{◌-◌}
 use native.Mathlib.Omega.{arith}
 use Rattle.graph.proofs.CheckLaws.{key_found, key_next, keys_none}
 use Rattle.graph.proofs.soundness.is_repeated.Goals as goal

@@ -1,4 +1,3 @@
-use Prim.Native.Nat.{◌-◌}
 use native.Mathlib.Omega.{arith}
 use Rattle.graph.proofs.CheckLaws.{ascend_more, ascend_done}
 use Rattle.graph.proofs.soundness.keys_ascend.Goals as goal

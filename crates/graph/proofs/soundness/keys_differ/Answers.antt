@@ -1,5 +1,4 @@
 use mathlib.Core.Path.{sym, ◌∙◌}
-use Prim.Native.Nat.{◌-◌}
 use native.Mathlib.Omega.{arith}
 use Rattle.graph.proofs.CheckLaws.{keys_begin, key_taken, key_new, keys_done}
 use Rattle.graph.proofs.soundness.keys_differ.Goals as goal

@@ -1,5 +1,4 @@
 use mathlib.Core.Path.{sym, ◌∙◌}
-use Prim.Native.Nat.{◌-◌}
 use native.Mathlib.Omega.{arith}
 use Rattle.graph.proofs.CheckLaws.{head_unfit, name_unfit, name_more, names-done}
 use Rattle.graph.proofs.soundness.names_fit.Goals as goal

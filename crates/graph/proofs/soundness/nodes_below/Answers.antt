@@ -1,5 +1,5 @@
 use mathlib.Core.Path.{refl, ap}
-use Prim.Native.Nat.{ℕ, ◌-◌}
+use Prim.Native.Nat.{ℕ}
 use native.Mathlib.Omega.{arith}
 use lib.Dec.{ltb}
 use Rattle.file.proofs.BoolLaws.{clash_bool}

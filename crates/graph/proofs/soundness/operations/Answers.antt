@@ -1,5 +1,4 @@
 use mathlib.Core.Path.{refl}
-use Prim.Native.Nat.{◌-◌}
 use native.Mathlib.Omega.{arith}
 use Rattle.graph.proofs.CheckLaws.{operations_more, operations-done}
 use Rattle.graph.proofs.soundness.operations.Goals as goal

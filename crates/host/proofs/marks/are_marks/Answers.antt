@@ -1,5 +1,4 @@
 use mathlib.Core.Path.{refl}
-use Prim.Native.Nat.{◌-◌}
 use native.Mathlib.Omega.{arith}
 use Rattle.file.specs.Lists.{all_of}
 use Rattle.host.specs.Marks.{are_marks}

@@ -1,6 +1,5 @@
 use mathlib.Core.Path.{refl}
 use mathlib.Core.Bool.{false}
-use Prim.Native.Nat.{◌-◌}
 use native.Mathlib.Omega.{arith}
 use Rattle.host.specs.Marks.{bytes_of}
 use Rattle.host.proofs.MarkLaws.{mark_byte, mapped_more, mapped-done}

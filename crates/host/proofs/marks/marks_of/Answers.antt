@@ -1,5 +1,4 @@
 use mathlib.Core.Path.{refl}
-use Prim.Native.Nat.{◌-◌}
 use native.Mathlib.Omega.{arith}
 use Rattle.host.specs.Marks.{marks_of}
 use Rattle.host.proofs.MarkLaws.{mapped_more, mapped-done}

@@ -1,5 +1,4 @@
 use Rattle.insertion.proofs.LoadLaws.{counted_none, counted_next, counted_all}
-use Prim.Native.Nat.{◌-◌}
 use native.Mathlib.Omega.{arith}
 use Rattle.insertion.proofs.loading.file_order.Goals as goal
 

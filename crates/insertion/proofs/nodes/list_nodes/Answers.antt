@@ -1,5 +1,4 @@
 use Rattle.insertion.proofs.NodeLaws.{begin, again, end, end_under, place_read}
-use Prim.Native.Nat.{◌-◌}
 use native.Mathlib.Omega.{arith}
 use mathlib.Core.Path.{refl, ◌∙◌}
 use Rattle.insertion.proofs.nodes.list_nodes.Goals as goal

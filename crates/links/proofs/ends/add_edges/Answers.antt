@@ -1,4 +1,3 @@
-use Prim.Native.Nat.{◌-◌}
 use native.Mathlib.Omega.{arith}
 use Rattle.links.proofs.EdgeLaws.{edge_begin, edge-step, edge_end}
 use Rattle.links.proofs.ends.add_edges.Goals as goal

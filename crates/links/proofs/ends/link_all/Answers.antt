@@ -1,5 +1,4 @@
 use mathlib.Core.Path.{refl}
-use Prim.Native.Nat.{◌-◌}
 use native.Mathlib.Omega.{arith}
 use Rattle.links.proofs.LinkLoops.{all_step, all_end}
 use Rattle.links.proofs.ends.link_all.Goals as goal

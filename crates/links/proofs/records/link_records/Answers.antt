@@ -1,5 +1,4 @@
 use mathlib.Core.Path.{refl, sym, ◌∙◌}
-use Prim.Native.Nat.{◌-◌}
 use native.Mathlib.Omega.{arith}
 use borrow.Author.Tests.{ltb-true, ltb-false}
 use Rattle.links.proofs.LinkingLaws.{read_taken, read_refused, begin, finish, not_taken, nodes_stop, few_others, edges_stop, again}

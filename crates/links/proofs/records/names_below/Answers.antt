@@ -1,6 +1,5 @@
 use mathlib.Core.Path.{sym, ◌∙◌}
 use mathlib.Core.Bool.{true}
-use Prim.Native.Nat.{◌-◌}
 use lib.Dec.{ltb}
 use native.Mathlib.Omega.{arith}
 use Rattle.graph.specs.Soundness.{if_present}

@@ -1,4 +1,3 @@
-use Prim.Native.Nat.{◌-◌}
 use Rattle.planning.proofs.DescentLaws.{missing_begin, missing_more, member-found, member-none}
 use Rattle.planning.proofs.chains.smallest_member.Goals as goal
 

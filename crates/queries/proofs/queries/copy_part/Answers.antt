@@ -1,5 +1,4 @@
 use Rattle.file.proofs.PutLaws.{copies_none, copies_room, copies_one, copies_long, copies_all}
-use Prim.Native.Nat.{◌-◌}
 use Rattle.queries.proofs.queries.copy_part.Goals as goal
 
 pub loop-i-init : goal.loop-i-init

@@ -1,7 +1,5 @@
 use Rattle.queries.proofs.BufferLaws.{counts_none, counts_low, counts_one, counts_not, counts_all}
-use mathlib.Core.Logic.{⊎_elim}
 use native.Mathlib.Omega.{arith}
-use Prim.Native.Nat.{◌-◌}
 use Rattle.queries.proofs.queries.count_kept.Goals as goal
 use Rattle.queries.proofs.queries.count_kept.Goals.{then-is_kept, else-is_kept}
 

@@ -1,6 +1,5 @@
 use Rattle.queries.proofs.BufferLaws.{not_yet}
 use native.Mathlib.Omega.{arith}
-use Prim.Native.Nat.{◌-◌}
 use Rattle.queries.proofs.queries.index_in.Goals as goal
 
 pub loop-i-init : goal.loop-i-init

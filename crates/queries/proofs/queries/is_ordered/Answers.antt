@@ -1,4 +1,3 @@
-use Prim.Native.Nat.{◌-◌}
 use Rattle.queries.proofs.MarkLaws.{orders_none, orders_one, orders_all}
 use Rattle.queries.proofs.queries.is_ordered.Goals as goal
 

@@ -1,6 +1,4 @@
 use Rattle.queries.proofs.MarkLaws.{lists-none, lists_one, lists_other, lists_all}
-use mathlib.Core.Logic.{⊎_elim}
-use Prim.Native.Nat.{◌-◌}
 use Rattle.queries.proofs.queries.listed.Goals as goal
 use Rattle.queries.proofs.queries.listed.Goals.{then-u-lt512, else-u-lt512}
 

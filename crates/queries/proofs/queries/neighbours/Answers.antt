@@ -1,7 +1,6 @@
 use Prim.Native.Nat.{◌<◌}
 use Rattle.queries.proofs.MarkLaws.{meets_none, meets_one, meets_all}
 use native.Mathlib.Omega.{arith}
-use Prim.Native.Nat.{◌-◌}
 use Rattle.queries.proofs.queries.neighbours.Goals as goal
 
 pub loop-i-init : goal.loop-i-init

@@ -1,4 +1,3 @@
-use Prim.Native.Nat.{◌-◌}
 use Rattle.queries.proofs.MarkLaws.{Settling}
 use Rattle.queries.proofs.queries.settle.Given as goal
 

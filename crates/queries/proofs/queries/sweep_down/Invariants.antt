@@ -1,6 +1,4 @@
-use Prim.Native.Nat.{◌-◌}
 use Rattle.queries.proofs.MarkLaws.{Sweeping}
-use Prim.Native.Nat.{◌-◌}
 use Rattle.queries.proofs.queries.sweep_down.Given as goal
 
 abbrev pub invariant-loop-i : goal.invariant-loop-i

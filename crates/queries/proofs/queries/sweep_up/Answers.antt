@@ -1,10 +1,9 @@
 use mathlib.Core.Path.{◌≡◌}
 use Rattle.file.proofs.BoolLaws.{split_lt}
-use Prim.Native.Nat.{◌-◌, ◌<◌}
+use Prim.Native.Nat.{◌<◌}
 use Rattle.queries.proofs.MarkLaws.{sweeps_none, sweeps_one, sweeps_all}
 use mathlib.Core.Logic.{⊎_elim, inl, inr}
 use native.Mathlib.Omega.{arith}
-use Prim.Native.Nat.{◌-◌}
 use Rattle.queries.proofs.queries.sweep_up.Goals as goal
 
 pub loop-i-init : goal.loop-i-init

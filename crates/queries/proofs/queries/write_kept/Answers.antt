@@ -1,7 +1,5 @@
 use Rattle.queries.proofs.BufferLaws.{writes-none, writes_room, writes_one, writes-not, writes_long, writes_all}
-use mathlib.Core.Logic.{⊎_elim}
 use native.Mathlib.Omega.{arith}
-use Prim.Native.Nat.{◌-◌}
 use Rattle.queries.proofs.queries.write_kept.Goals as goal
 use Rattle.queries.proofs.queries.write_kept.Goals.{then-is_kept, else-is_kept}
 

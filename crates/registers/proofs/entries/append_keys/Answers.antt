@@ -1,5 +1,4 @@
 use mathlib.Core.Path.{refl}
-use Prim.Native.Nat.{◌-◌}
 use Rattle.registers.proofs.RegisterDefinitions.{append_begin, append_known, append_over, append_new, append_done, marked, unmarked}
 use Rattle.registers.proofs.entries.append_keys.Goals as goal
 

@@ -1,7 +1,4 @@
-use Rattle.file.specs.declared.InvolvedClassical.TheVariants.{All, AllQubits}
 use Rattle.registers.proofs.RegisterLaws.{map_same, map_near, map-far, map_defined}
-use mathlib.Core.Path.{sym, ◌∙◌, ap}
-use mathlib.Core.Logic.{inl, inr}
 use Rattle.registers.proofs.entries.join_map.Goals as goal
 
 pub enum_known-classical : goal.enum_known-classical

@@ -1,4 +1,3 @@
-use Prim.Native.Nat.{◌-◌}
 use native.Mathlib.Omega.{arith}
 use Rattle.registers.proofs.RegisterNames.{keep_begin, keep_sized, keep-named, keep_other, keep-done}
 use Rattle.registers.proofs.entries.keep_name.Goals as goal

@@ -1,5 +1,4 @@
 use mathlib.Core.Path.{refl, sym}
-use Prim.Native.Nat.{◌-◌}
 use native.Mathlib.Omega.{arith}
 use Rattle.registers.proofs.RegisterDefinitions.{mark_begin, mark_skip, mark_set, mark-done}
 use Rattle.registers.proofs.entries.mark_keys.Goals as goal

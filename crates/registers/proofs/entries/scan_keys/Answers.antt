@@ -1,8 +1,4 @@
-use Prim.Native.Nat.{◌-◌}
 use native.Mathlib.Omega.{arith}
-use mathlib.Core.Logic.{⊎_elim}
-use borrow.Author.Count.{below_more}
-use Rattle.registers.specs.RegisterMaps.{StandsAt}
 use borrow.Author.Rules.{rules}
 use Rattle.registers.proofs.entries.scan_keys.Goals as goal
 

@@ -1,4 +1,3 @@
-use Prim.Native.Nat.{◌-◌}
 use borrow.Author.Tests.{ltb-true, ltb-false}
 use Rattle.registers.proofs.RegisterSets.{set_begin, set_over, set_known, set_far_over, set_new, set_done}
 use Rattle.registers.proofs.entries.set_keys.Goals as goal

@@ -1,5 +1,4 @@
 use mathlib.Core.Path.{sym, ◌∙◌}
-use Prim.Native.Nat.{◌-◌}
 use native.Mathlib.Omega.{arith}
 use Rattle.registers.proofs.MapLaws.{begin, skip, by_record, refused, again, finish}
 use Rattle.registers.proofs.maps.enter_records.Goals as goal

@@ -1,4 +1,3 @@
-use Prim.Native.Nat.{◌-◌}
 use native.Mathlib.Omega.{arith}
 use Rattle.report.proofs.TextLaws.{copies_none, copies_one, copies_all}
 use Rattle.report.proofs.lines.write_bytes.Goals as goal

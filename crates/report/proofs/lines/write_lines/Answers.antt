@@ -1,5 +1,4 @@
 use native.Mathlib.Omega.{arith}
-use Prim.Native.Nat.{◌-◌}
 use Rattle.report.proofs.LineLaws.{lines_begin, lines_room, lines_more, lines_fit, lines_end}
 use Rattle.report.proofs.lines.write_lines.Goals as goal
 

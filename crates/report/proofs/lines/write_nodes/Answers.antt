@@ -1,6 +1,5 @@
 use native.Mathlib.Omega.{arith}
 use Rattle.report.proofs.LineLaws.{lists-none, lists_room, lists_one, lists_end, lists_all}
-use Prim.Native.Nat.{◌-◌}
 use Rattle.report.proofs.lines.write_nodes.Goals as goal
 
 pub loop-v-init : goal.loop-v-init

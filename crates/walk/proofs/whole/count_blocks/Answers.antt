@@ -1,4 +1,3 @@
-use Prim.Native.Nat.{◌-◌}
 use native.Mathlib.Omega.{arith}
 use Rattle.walk.proofs.NumberingLaws.{count_begin, count_more, count-done}
 use Rattle.walk.proofs.whole.count_blocks.Goals as goal

@@ -1,4 +1,3 @@
-use Prim.Native.Nat.{◌-◌}
 use Rattle.walk.proofs.StepLaws.{counting_begin, counting_more, counting_past, counting_done}
 use Rattle.walk.proofs.whole.count_members.Goals as goal
 

@@ -1,5 +1,4 @@
 use mathlib.Core.Path.{refl}
-use Prim.Native.Nat.{◌-◌}
 use Rattle.walk.proofs.whole.edge_in_turn.Goals as goal
 
 pub returns-then-down : goal.returns-then-down

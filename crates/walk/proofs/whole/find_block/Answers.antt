@@ -1,5 +1,4 @@
 use mathlib.Core.Path.{refl}
-use Prim.Native.Nat.{◌-◌}
 use Rattle.graph.proofs.SizeLaws.{dag_sized}
 use Rattle.walk.proofs.whole.find_block.Goals as goal
 

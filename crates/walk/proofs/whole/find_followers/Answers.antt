@@ -1,4 +1,3 @@
-use Prim.Native.Nat.{◌-◌}
 use Rattle.graph.proofs.SizeLaws.{dag_sized}
 use Rattle.walk.specs.Numbering.{Joined}
 use Rattle.walk.proofs.WholeLaws.{joined}

@@ -1,5 +1,4 @@
 use mathlib.Core.Path.{refl}
-use Prim.Native.Nat.{◌-◌}
 use native.Mathlib.Omega.{arith}
 use Rattle.walk.proofs.NumberingLaws.{firsts_more, firsts-done}
 use Rattle.walk.proofs.whole.first_numbers.Goals as goal

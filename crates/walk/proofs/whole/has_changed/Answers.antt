@@ -1,5 +1,4 @@
 use mathlib.Core.Path.{refl}
-use Prim.Native.Nat.{◌-◌}
 use Rattle.walk.proofs.whole.has_changed.Goals as goal
 
 pub returns-then-before : goal.returns-then-before

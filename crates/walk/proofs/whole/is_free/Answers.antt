@@ -1,5 +1,4 @@
 use mathlib.Core.Path.{sym}
-use Prim.Native.Nat.{◌-◌}
 use borrow.Author.Tests.{eq-eqb, ne_eqb}
 use Rattle.walk.proofs.StepLaws.{and-not, and-true}
 use Rattle.walk.proofs.whole.is_free.Goals as goal

@@ -1,4 +1,3 @@
-use Prim.Native.Nat.{◌-◌}
 use Rattle.walk.proofs.StepLaws.{joining_begin, joining_more, joining_done}
 use Rattle.walk.proofs.whole.join_marks.Goals as goal
 

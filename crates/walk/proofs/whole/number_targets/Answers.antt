@@ -1,4 +1,4 @@
-use Prim.Native.Nat.{◌-◌, ◌<◌}
+use Prim.Native.Nat.{◌<◌}
 use native.Mathlib.Omega.{arith}
 use Rattle.walk.proofs.NumberingLaws.{zero_begin, zero_more, zero-done}
 use Rattle.walk.proofs.whole.number_targets.Goals as goal

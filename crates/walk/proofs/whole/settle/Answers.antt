@@ -1,4 +1,3 @@
-use Prim.Native.Nat.{◌-◌}
 use Rattle.walk.proofs.NumberingLaws.{rounds_begin, rounds_more, rounds_still, rounds_done}
 use Rattle.walk.proofs.whole.settle.Goals as goal
 

@@ -1,4 +1,4 @@
-use Prim.Native.Nat.{◌-◌, ◌<◌}
+use Prim.Native.Nat.{◌<◌}
 use native.Mathlib.Omega.{arith}
 use Rattle.walk.proofs.NumberingLaws.{edge_low, sweep_begin, sweep_more, sweep_done}
 use Rattle.walk.proofs.whole.sweep.Goals as goal

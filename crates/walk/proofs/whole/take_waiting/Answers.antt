@@ -1,4 +1,4 @@
-use Prim.Native.Nat.{◌-◌, ◌<◌}
+use Prim.Native.Nat.{◌<◌}
 use native.Mathlib.Omega.{arith}
 use Rattle.walk.proofs.StepLaws.{taking_begin, taking_more, taking_done}
 use Rattle.walk.proofs.whole.take_waiting.Goals as goal

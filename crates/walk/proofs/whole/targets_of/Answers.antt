@@ -1,4 +1,4 @@
-use Prim.Native.Nat.{◌-◌, ◌<◌}
+use Prim.Native.Nat.{◌<◌}
 use Rattle.walk.proofs.StepLaws.{marking_begin, marking_more, marking_done}
 use Rattle.walk.proofs.whole.targets_of.Goals as goal
 

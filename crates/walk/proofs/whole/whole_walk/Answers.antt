@@ -1,6 +1,5 @@
 use mathlib.Core.Path.{◌≡◌, sym, ◌∙◌}
 use mathlib.Core.Bool.{true}
-use Prim.Native.Nat.{◌-◌}
 use Rattle.graph.specs.Soundness.{sound}
 use Rattle.walk.proofs.BlockLaws.{W}
 use Rattle.walk.proofs.WholeLaws.{walk_unsound, walk_short, walk_whole}

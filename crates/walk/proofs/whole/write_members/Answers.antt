@@ -1,4 +1,3 @@
-use Prim.Native.Nat.{◌-◌}
 use Rattle.walk.proofs.StepLaws.{putting_begin, put_room, putting_more, putting_past, putting_done}
 use Rattle.walk.proofs.whole.write_members.Goals as goal
 

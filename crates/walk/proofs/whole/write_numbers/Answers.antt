@@ -1,4 +1,3 @@
-use Prim.Native.Nat.{◌-◌}
 use Rattle.walk.proofs.NumberingLaws.{write_begin, write_more, write_done}
 use Rattle.walk.proofs.whole.write_numbers.Goals as goal
 

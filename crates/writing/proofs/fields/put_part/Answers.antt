@@ -1,5 +1,4 @@
 use mathlib.Core.Path.{sym}
-use Prim.Native.Nat.{◌-◌}
 use native.Mathlib.Omega.{arith}
 use Rattle.file.proofs.PutLaws.{copies_none, copies_room, copies_long}
 use Rattle.writing.proofs.WriterLaws.{put_over, part_next, part_done}

@@ -1,4 +1,3 @@
-use Prim.Native.Nat.{◌-◌}
 use Rattle.writing.proofs.WritingLaws.{gate-length}
 use Rattle.writing.proofs.WriterLaws.{gates_none, gates_one, gates_all}
 use Rattle.writing.proofs.gates.put_gates.Goals as goal

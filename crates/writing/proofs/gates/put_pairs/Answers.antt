@@ -1,4 +1,3 @@
-use Prim.Native.Nat.{◌-◌}
 use Rattle.writing.proofs.WriterLaws.{pairs_none, pairs_one, pairs_all}
 use Rattle.writing.proofs.gates.put_pairs.Goals as goal
 
