@@ -1,10 +1,10 @@
-// Links the static library that `rt staticlib host` wrote, and the layout of the header's structs.
+// Links the static library that `rt lib` makes in crates/host, and the layout of the header's structs.
 use std::{env, path::Path, process::Command};
 
 fn main() {
     let root = env::var("CARGO_MANIFEST_DIR").expect("cargo sets it");
     let root = Path::new(&root).parent().expect("compare/ is in the repository");
-    let folder = root.join("target/staticlib");
+    let folder = root.join("crates/host/out");
     println!("cargo:rustc-link-search=native={}", folder.display());
     println!("cargo:rustc-link-lib=static=host");
     println!("cargo:rerun-if-changed={}", folder.join("libhost.a").display());

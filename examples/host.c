@@ -1,8 +1,9 @@
 /* A host in C: loads a circuit file and prints its blocks, then calls every function of include/sawhekonu.h on cases whose answers follow from
  * document 01, K1, K2 and K6 by hand, and measures the stack that each call takes. It writes a line a call, which examples/host.stdout has, and ends in
  * status 1 at the first answer that is another. From the root:
- *   rt staticlib host
- *   cc -std=c11 -Iinclude examples/host.c target/staticlib/libhost.a -pthread -o target/host && target/host examples/case2.circuit */
+ *   (cd crates/host && rt lib)
+ *   cc -std=c11 -Iinclude examples/host.c crates/host/out/libhost.a -pthread -o crates/host/out/host
+ *   crates/host/out/host examples/case2.circuit */
 #define _GNU_SOURCE
 #include "sawhekonu.h"
 #include <pthread.h>

@@ -1,5 +1,5 @@
-/* Sawhekonu for C and C++: the functions of libhost.a (rt staticlib host), with what each promises. The words are document 01's; the promises are
- * proved in crates/host, and examples/host.c calls each function and asserts the sizes and offsets below.
+/* Sawhekonu for C and C++: the functions of crates/host/out/libhost.a (rt lib, in crates/host), with what each promises. The words are document 01's;
+ * the promises are proved in crates/host, and examples/host.c calls each function and asserts the sizes and offsets below.
  *
  * In and out. A graph is the caller's own struct and goes in and out by value, some 16 KB; a file, a record, a list of nodes is a pointer and then
  * its length in elements. Nothing is kept between two calls, nothing is allocated, and no call touches anything but what it is lent. A call needs at
