@@ -3,7 +3,7 @@
 
 ghost use Rattle.std.specs.Prelude.{◌≡◌, ◌&&◌, ◌≤◌, eqb};
 ghost use Rattle.graph.specs.Dag.{at_qubit, entries_of};
-ghost use Rattle.accessors.specs.Accessors.{operation_of, node_of_key, get as getRule, commuting_operations, first_parallel_block, last_parallel_block};
+ghost use Rattle.accessors.specs.Accessors.{operation_of, node_of_key, get as get_rule, commuting_operations, first_parallel_block, last_parallel_block};
 ghost use Rattle.accessors.specs.Accessors.{first_involving_qubit, last_involving_qubit, first_involving_classical, last_involving_classical};
 
 use file::{Refusal, RegisterKey};
@@ -37,7 +37,7 @@ pub enum Operation {
 
 // What node v keeps.
 pub fn get(g: CircuitDag, v: NodeIndex) -> Got
-    ensures { result ≡ getRule g v.0 }
+    ensures { result ≡ get_rule g v.0 }
 {
     if !is_sound(g) {
         return Got::Refused(Refusal::Unsound);

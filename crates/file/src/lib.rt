@@ -17,7 +17,7 @@ pub use records::{
 };
 pub use refusals::{at_record, refusal_number, refusal_value};
 
-// "Causes of refusal" of all crates: definitions numberOf and valueOf give the document's number and value of each.
+// "Causes of refusal" of all crates: definitions number_of and value_of give the document's number and value of each.
 #[derive(Clone, Copy)]
 pub enum Refusal {
     FileTooShort,

@@ -1,5 +1,5 @@
 -- The list rules as facts on every index, both ways. `-at` takes a list apart by its indices, `at-` puts it together;
--- `-upTo` and `upTo-` the same for `map f (up_to n)`. Assumes nothing.
+-- `-up_to` and `up_to-` the same for `map f (up_to n)`. Assumes nothing.
 use mathlib.Core.Path.{◌≡◌, refl, sym, ◌∙◌, ap}
 use mathlib.Core.Bool.{Bool, true, false, ◌&&◌, ◌||◌, not, and-false}
 use mathlib.Core.Logic.{⊎_elim}

@@ -29,7 +29,7 @@ use Rattle.insertion.specs.declared.Inserted.{Inserted}
 use Rattle.links.specs.Links.{rule_of, LoadingRule}
 use Rattle.insertion.specs.Insertion.{grown_at, grown}
 use Rattle.insertion.specs.Limits.{refused, insert_by}
-use Rattle.insertion.specs.Calls.{Call as Insertion, bytes_of, graph_after, built as builtBy, all_by}
+use Rattle.insertion.specs.Calls.{Call as Insertion, bytes_of, graph_after, built as built_by, all_by}
 use Rattle.graph.proofs.ListLaws.{all_same}
 use Rattle.insertion.proofs.SafeEdges.{between}
 use Rattle.insertion.proofs.CaseLaws.{insert_cases}
@@ -37,7 +37,7 @@ use Rattle.insertion.proofs.BuiltLaws.{Safe, safe_empty, safe_insert}
 use Rattle.guarantee.specs.Guarantee.{Accepted, accepted_from, accepted, NoEmptySet, Bytes}
 use Rattle.guarantee.proofs.LinkViews.{take_by}
 use Rattle.guarantee.proofs.GrownViews.{Seen, grown-at, call_at, grown_seen}
-use Rattle.guarantee.proofs.Nets.{Net, Take, nothing, every, these, Call, flip, back, insert, run, empty as emptyNet}
+use Rattle.guarantee.proofs.Nets.{Net, Take, nothing, every, these, Call, flip, back, insert, run, empty as empty_net}
 use Rattle.guarantee.proofs.NetRuns.{Ranked, turn, back-before, ranked_insert, empty_ranked}
 
 -- ---- a list with one entry more
@@ -93,7 +93,7 @@ calls_from g (c ∷ l) = let s = c.bytes in let x = insert_by c.rule g s in
     elim x.answer [ Node v ↦ call_at c.rule (front s) s ∷ calls_from x.graph l | Refused r ↦ calls_from x.graph l ]
 
 abbrev pub net_of : List Insertion → Net
-net_of l = run emptyNet (calls_from empty l)
+net_of l = run empty_net (calls_from empty l)
 
 -- one that stands in no list
 abbrev pub no_record : Accepted
@@ -293,7 +293,7 @@ count-from (c ∷ l) g b f G = insert_told c.rule g s
     s : List ℕ
     s = c.bytes
 
-pub built-size : (l : List Insertion) → size (builtBy l) ≡ length (accepted l)
+pub built-size : (l : List Insertion) → size (built_by l) ≡ length (accepted l)
 unfolding empty
 built-size l = omega (arith, count-from l empty 0 0 safe_empty)
 
@@ -344,7 +344,7 @@ built-from (c ∷ l) N g b f d T p q h = insert_told rule g s
     fronts true = ap (λ (k : ℕ). k + 1) q
     fronts false = q
 
-built-empty : Built emptyNet empty []
+built-empty : Built empty_net empty []
 unfolding empty no_end any_of count_from qubits_by
 built-empty = record {
   safe = safe_empty;
@@ -370,9 +370,9 @@ built-empty = record {
 }
 
 -- every list of insertions on the empty graph, each in either way
-pub built : (l : List Insertion) → Bytes (bytes_of l) → Built (net_of l) (builtBy l) (accepted l)
+pub built : (l : List Insertion) → Bytes (bytes_of l) → Built (net_of l) (built_by l) (accepted l)
 unfolding empty
-built l h = built-from l emptyNet empty 0 0 [] built-empty refl refl h
+built l h = built-from l empty_net empty 0 0 [] built-empty refl refl h
 
 -- ---- insertions all in one way
 

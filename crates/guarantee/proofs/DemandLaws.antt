@@ -16,7 +16,7 @@ use Rattle.graph.specs.Dag.{size, has_edge}
 use Rattle.graph.specs.Soundness.{sound}
 use Rattle.file.proofs.BoolLaws.{bool_cases, clash_bool, not-true, bool_ext, and_l, and_r, eqb-flip}
 use Rattle.graph.proofs.ListLaws.{any_here, any-later, keep-any, member-keep}
-use Rattle.insertion.specs.Calls.{Call, bytes_of, built as builtBy, all_by, final_by}
+use Rattle.insertion.specs.Calls.{Call, bytes_of, built as built_by, all_by, final_by}
 use Rattle.insertion.proofs.BuiltLaws.{sound-built}
 use Rattle.insertion.proofs.CaseLaws.{insert_cases}
 use Rattle.graph.specs.declared.NodeIndex.{NodeIndex}
@@ -29,7 +29,7 @@ use Rattle.walk.specs.Blocks.{Walked, state_after, block_of_step, blocks}
 use Rattle.guarantee.specs.Guarantee.{Accepted, accepted, takes_qubits, operations, Each, Orders, different}
 use Rattle.guarantee.specs.Guarantee.{entry, filled, Bytes, Condition, Guarantee, Guaranteed, Demand3, BothEnds}
 use Rattle.walk.proofs.Bounds.{any, any_elim, any_ext, greatest, greatest_le}
-use Rattle.walk.proofs.Heights.{Guarantee as Numbered, Keeps, block, steps, number, different as differentIn}
+use Rattle.walk.proofs.Heights.{Guarantee as Numbered, Keeps, block, steps, number, different as different_in}
 use Rattle.guarantee.proofs.Nets.{Net, Call as NetCall, is_op, clashes, Base, NonEmpties, run, empty}
 use Rattle.guarantee.proofs.NetRuns.{Kept, kept, net_base, far_base}
 use Rattle.walk.proofs.BlockSteps.{Within, sound-within, any_list, block-at, count_at, number_in, number_out}
@@ -81,9 +81,9 @@ number_of rule g s v = insert_cases rule g s 0 (λ x. x.answer ≡ Node v → si
     (λ t e. cc)
 
 -- the guarantee for insertions, each in either way, whose net keeps the invariant
-module _ (calls : List Call) (buffer : List ℕ) (bytes : Bytes (bytes_of calls)) (B : Base (net_of calls)) (room : size (builtBy calls) ≤ length buffer) where
+module _ (calls : List Call) (buffer : List ℕ) (bytes : Bytes (bytes_of calls)) (B : Base (net_of calls)) (room : size (built_by calls) ≤ length buffer) where
   abbrev g : CircuitDag
-  g = builtBy calls
+  g = built_by calls
 
   abbrev done : List Accepted
   done = accepted calls
@@ -207,8 +207,8 @@ module _ (calls : List Call) (buffer : List ℕ) (bytes : Bytes (bytes_of calls)
       (subst (λ (x : ℕ). x ≤ rival u) (sym (entry-is u ku)) (K.least rival (keeps_of rival h) u (op-is u ku ∙ tu))))
 
   -- how many different numbers a rival has
-  rival_is : (rival : ℕ → ℕ) → different (map rival (map (λ (o : Accepted). o.node) (operations calls))) [] ≡ differentIn (size g) op rival
-  unfolding differentIn
+  rival_is : (rival : ℕ → ℕ) → different (map rival (map (λ (o : Accepted). o.node) (operations calls))) [] ≡ different_in (size g) op rival
+  unfolding different_in
   rival_is rival = different-count top numbers below ∙ count_ext top _ _ (λ k b. among k)
     where
       top : ℕ
@@ -238,7 +238,7 @@ module _ (calls : List Call) (buffer : List ℕ) (bytes : Bytes (bytes_of calls)
     calls = λ before rest c e. (sound-built before).never c.rule c.bytes;
     numbers = λ before rest c v e a.
         let here = ap (λ (x : Inserted). x.answer) ((sound-built before).never c.rule c.bytes) in
-        sym (number_of (rule_of c.rule) (builtBy before) c.bytes v (sym here ∙ a)) ∙ built-size before;
+        sym (number_of (rule_of c.rule) (built_by before) c.bytes v (sym here ∙ a)) ∙ built-size before;
     nodes = sym T.long;
     count = ap (λ (x : Walked). x.answer) (walk_done g sound-g buffer room) ∙ ap Blocks (steps-is ∙ sym filled_is);
     once = once_of;

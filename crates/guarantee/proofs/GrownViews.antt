@@ -145,10 +145,10 @@ module _ (g : CircuitDag) (s : List ℕ) (G : Safe false g) (low : size g < 512)
   }
 
   in_from : g.edges.count ≤ length g.edges.from
-  in_from = omega (arith, G.edges.count, G.edges.from-size)
+  in_from = omega (arith, G.edges.count, G.edges.from_size)
 
   in_to : g.edges.count ≤ length g.edges.to
-  in_to = omega (arith, G.edges.count, G.edges.to-size)
+  in_to = omega (arith, G.edges.count, G.edges.to_size)
 
   pub grown_seen : (far_all b : Bool) (N : Net) → Seen g N → Seen (grown_at (rule_of far_all) b g s) (insert N (call_at far_all b s))
   grown_seen far_all false N S = sees_as (size g + 1) _ _ _ _ _ (link_sees far_all (qubits_of s) (size g) (λ a b. has_edge g a b) g.last g.first N S fits_last)

@@ -26,7 +26,7 @@ use Rattle.graph.proofs.ListLaws.{all_same}
 use Rattle.walk.proofs.Bounds.{any, any_intro, any_elim, any-and, and-any, any_ext, any_none, none_any}
 use Rattle.walk.proofs.BlockSteps.{any_list, not-empty, empty-not}
 use Rattle.guarantee.proofs.Nets.{Net, Take, nothing, every, these, is}
-use Rattle.guarantee.proofs.Nets.{or_else as else, present as option_is_some, or, source as sourceIn, far as farIn, back_these}
+use Rattle.guarantee.proofs.Nets.{or_else as else, present as option_is_some, or, source as source_in, far as far_in, back_these}
 use Rattle.guarantee.proofs.Nets.{back_every, back_nothing, back, no_qubits}
 
 -- ---- an entry that may be absent
@@ -253,7 +253,7 @@ module _ (n : ℕ) (E : ℕ → ℕ → Bool) (near far : End) (N : Net) (S : Se
       (λ (e : present (at_qubit near q) ≡ false). rw e (λ p. omega (arith, F.all p, F.low)))
       (bool_cases (present (at_qubit near q)))
 
-  source_is : (q : ℕ) → q < 64 → sourceIn N q ≡ found (source near q)
+  source_is : (q : ℕ) → q < 64 → source_in N q ≡ found (source near q)
   source_is q l = (λ i. else (S.lasts q l i) (S.last_all_lem i)) ∙ found_else (at_qubit near q) near.all.0
 
   -- a record without qubits
@@ -281,25 +281,25 @@ module _ (n : ℕ) (E : ℕ → ℕ → Bool) (near far : End) (N : Net) (S : Se
     once = ascend_distinct (qubits m) (qubits_ascend 64 0 m)
 
     -- the sources are the others
-    set_others : (a : ℕ) → any 64 (λ q. has m q && is (sourceIn N q) a) ≡ member a x.others
+    set_others : (a : ℕ) → any 64 (λ q. has m q && is (source_in N q) a) ≡ member a x.others
     unfolding link_set any_of
     set_others a =
         any_ext 64 _ _ (λ q l. ap (λ (b : Bool). has m q && b) (ap (λ (o : Option ℕ). is o a) (source_is q l) ∙ found-is (source near q) a))
         ∙ sym (has-any m (λ q. is_at (source near q) a))
         ∙ sym (link_others n (rule_of far_all) (qubits m) began once a)
 
-    set_pointed : any 64 (λ q. has m q && option_is_some (sourceIn N q)) ≡ not (is_empty x.others)
+    set_pointed : any 64 (λ q. has m q && option_is_some (source_in N q)) ≡ not (is_empty x.others)
     set_pointed = bool_ext _ _
         (λ h.
-        let r = any-and 64 (has m) (λ q. option_is_some (sourceIn N q)) h in
+        let r = any-and 64 (has m) (λ q. option_is_some (source_in N q)) h in
         let p : present (source near r.0) ≡ true = sym (ap option_is_some (source_is r.0 r.1) ∙ found_some (source near r.0)) ∙ r.3 in
-        let i : is (sourceIn N r.0) (source near r.0) ≡ true = ap (λ (o : Option ℕ). is o (source near r.0)) (source_is r.0 r.1) ∙ found-is (source near r.0) (source near r.0) ∙ and_intro _ _ p (eqb_same (source near r.0)) in
-        let k = sym (set_others (source near r.0)) ∙ and-any 64 (has m) (λ q. is (sourceIn N q) (source near r.0)) r.0 r.1 r.2 i in
+        let i : is (source_in N r.0) (source near r.0) ≡ true = ap (λ (o : Option ℕ). is o (source near r.0)) (source_is r.0 r.1) ∙ found-is (source near r.0) (source near r.0) ∙ and_intro _ _ p (eqb_same (source near r.0)) in
+        let k = sym (set_others (source near r.0)) ∙ and-any 64 (has m) (λ q. is (source_in N q) (source near r.0)) r.0 r.1 r.2 i in
         flip-not _ (not-true (λ e. clash_bool k (empty-not x.others e (source near r.0)))))
         (λ h.
         let w = not-empty x.others (not-flip _ h) in
-        let r = any-and 64 (has m) (λ q. is (sourceIn N q) w.0) (set_others w.0 ∙ w.1) in
-        and-any 64 (has m) (λ q. option_is_some (sourceIn N q)) r.0 r.1 r.2 (is_there (sourceIn N r.0) w.0 r.3))
+        let r = any-and 64 (has m) (λ q. is (source_in N q) w.0) (set_others w.0 ∙ w.1) in
+        and-any 64 (has m) (λ q. option_is_some (source_in N q)) r.0 r.1 r.2 (is_there (source_in N r.0) w.0 r.3))
       where
         is_there : (o : Option ℕ) (a : ℕ) → is o a ≡ true → option_is_some o ≡ true
         is_there none a h = h
@@ -312,7 +312,7 @@ module _ (n : ℕ) (E : ℕ → ℕ → Bool) (near far : End) (N : Net) (S : Se
         (λ (e : has m q ≡ false). rw e (S.lasts q l ∙ ap found (sym (set_outside (rule_of far_all) m n q near far e).0)))
         (bool_cases (has m q))
 
-    set_firsts : (q : ℕ) → q < 64 → cond (has m q && not (option_is_some (N.last q))) (some (farIn far_all N N.size)) (N.first q) ≡ found (at_qubit x.far q)
+    set_firsts : (q : ℕ) → q < 64 → cond (has m q && not (option_is_some (N.last q))) (some (far_in far_all N N.size)) (N.first q) ≡ found (at_qubit x.far q)
     set_firsts q l = ⊎_elim
         (λ (e : has m q ≡ true). rw e (new (present (at_qubit near q)) refl
         ∙ ap found (sym (set_entries (rule_of far_all) (steady_rule far_all) m n q near far e (omega (arith, F.near_nodes)) (omega (arith, F.far_nodes))).1)))
@@ -322,16 +322,16 @@ module _ (n : ℕ) (E : ℕ → ℕ → Bool) (near far : End) (N : Net) (S : Se
         known : option_is_some (N.last q) ≡ present (at_qubit near q)
         known = ap option_is_some (S.lasts q l) ∙ found_some (at_qubit near q)
 
-        fresh : (b : Bool) → some (farIn b N N.size) ≡ found (or_else (rule_of b near far) n)
+        fresh : (b : Bool) → some (far_in b N N.size) ≡ found (or_else (rule_of b near far) n)
         fresh true = (λ i. some (or (S.first_all_lem i) (S.size i))) ∙ found-or far.all.0 n F.low
         fresh false = (λ i. some (or (S.last_all_lem i) (S.size i))) ∙ found-or near.all.0 n F.low
 
         new : (b : Bool) → present (at_qubit near q) ≡ b
-            → cond (not (option_is_some (N.last q))) (some (farIn far_all N N.size)) (N.first q) ≡ found (far_entry (rule_of far_all) near far n q)
+            → cond (not (option_is_some (N.last q))) (some (far_in far_all N N.size)) (N.first q) ≡ found (far_entry (rule_of far_all) near far n q)
         new true e = rw (known ∙ e, e) (S.firsts q l)
         new false e = rw (known ∙ e, e) (fresh far_all)
 
-    set_heads : (u : ℕ) → (N.head u || (eqb u N.size && not (any 64 (λ q. has m q && option_is_some (sourceIn N q))))) ≡ get_or x.far.block u false
+    set_heads : (u : ℕ) → (N.head u || (eqb u N.size && not (any 64 (λ q. has m q && option_is_some (source_in N q))))) ≡ get_or x.far.block u false
     unfolding link_set
     set_heads u = (λ i. S.heads u i || (eqb u (S.size i) && not (set_pointed i))) ∙ go (is_empty x.others)
         ∙ ap (λ (b : List Bool). get_or (cond (is_empty x.others) (set b n true) b) u false) (sym (link_all_lem n (rule_of far_all) (qubits m) began).2)
@@ -340,12 +340,12 @@ module _ (n : ℕ) (E : ℕ → ℕ → Bool) (near far : End) (N : Net) (S : Se
         go true = block_joins far.block n u (omega (arith, F.far-block, F.low))
         go false = no_more (get_or far.block u false) (eqb u n)
 
-    set_tails : (u : ℕ) → ((eqb u N.size && any 64 (has m)) || (N.tail u && not (any 64 (λ q. has m q && is (sourceIn N q) u)))) ≡ get_or x.near.block u false
+    set_tails : (u : ℕ) → ((eqb u N.size && any 64 (has m)) || (N.tail u && not (any 64 (λ q. has m q && is (source_in N q) u)))) ≡ get_or x.near.block u false
     unfolding link_set
     set_tails u = (λ i. (eqb u (S.size i) && has_some m i) || (S.tails u i && not (sources i)))
         ∙ sym (link-block n (rule_of far_all) (qubits m) began once F.low F.near_block source_low u)
       where
-        sources : any 64 (λ q. has m q && is (sourceIn N q) u) ≡ any_of (λ q. is_at (source near q) u) (qubits m)
+        sources : any 64 (λ q. has m q && is (source_in N q) u) ≡ any_of (λ q. is_at (source near q) u) (qubits m)
         sources = any_ext 64 _ _ (λ q l. ap (λ (b : Bool). has m q && b) (ap (λ (o : Option ℕ). is o u) (source_is q l) ∙ found-is (source near q) u))
             ∙ sym (has-any m (λ q. is_at (source near q) u))
 

@@ -10,7 +10,7 @@ use crate::answers::of_walk;
 #[unsafe(no_mangle)]
 pub extern "C" fn sawhekonu_schedule(file: &[u8], buffer: &mut [u16]) -> HostAnswer
     ensures buffer_after { record { answer = result; buffer = buffer.new } ≡ walked (schedule file.now buffer.old) }
-    ensures by_index { (k : ℕ) → result ≡ accepts k → Condition file.now → Scheduled file.now k buffer.new }
+    ensures promise { (k : ℕ) → result ≡ accepts k → Condition file.now → Scheduled file.now k buffer.new }
 {
     let x = schedule::schedule(file, buffer);
     of_walk(x)
@@ -19,7 +19,7 @@ pub extern "C" fn sawhekonu_schedule(file: &[u8], buffer: &mut [u16]) -> HostAns
 #[unsafe(no_mangle)]
 pub extern "C" fn sawhekonu_schedule_both_ends(file: &[u8], buffer: &mut [u16]) -> HostAnswer
     ensures buffer_after { record { answer = result; buffer = buffer.new } ≡ walked (schedule_by FarAll file.now buffer.old) }
-    ensures by_index { (k : ℕ) → result ≡ accepts k → ScheduledBy FarAll file.now k buffer.new }
+    ensures promise { (k : ℕ) → result ≡ accepts k → ScheduledBy FarAll file.now k buffer.new }
 {
     let x = schedule::schedule_both_ends(file, buffer);
     of_walk(x)

@@ -163,8 +163,8 @@ safe_empty = record {
     apart = λ u v a l. absurd (omega arith);
   };
   edges = record {
-    from-size = length-replicate {A = ℕ} 2048 0;
-    to-size = length-replicate {A = ℕ} 2048 0;
+    from_size = length-replicate {A = ℕ} 2048 0;
+    to_size = length-replicate {A = ℕ} 2048 0;
     count = omega arith;
     each = λ i l. absurd (omega arith);
     apart = λ i j a l. absurd (omega arith);
@@ -236,10 +236,10 @@ module _ (rule : FarRule) (names : NamesAll rule) (b : Bool) (h : CircuitDag) (s
       A.edges
 
   in_from : h.edges.count ≤ length h.edges.from
-  in_from = omega (arith, H.edges.count, H.edges.from-size)
+  in_from = omega (arith, H.edges.count, H.edges.from_size)
 
   in_to : h.edges.count ≤ length h.edges.to
-  in_to = omega (arith, H.edges.count, H.edges.to-size)
+  in_to = omega (arith, H.edges.count, H.edges.to_size)
 
   safe_extended : Safe b h'
   safe_extended =

@@ -78,8 +78,8 @@ pub record Edged (n : ℕ) (op : ℕ → Bool) (place : ℕ → ℤ) (a b : ℕ)
   pub rises : lt_z (place a) (place b) ≡ true
 
 pub record EdgesSafe (n : ℕ) (op : ℕ → Bool) (place : ℕ → ℤ) (es : Edges) : Type 0 where
-  pub from-size : length es.from ≡ 2048
-  pub to-size : length es.to ≡ 2048
+  pub from_size : length es.from ≡ 2048
+  pub to_size : length es.to ≡ 2048
   pub count : es.count ≤ 2048
   pub each : (i : ℕ) → i < es.count → Edged n op place (get_or es.from i 0) (get_or es.to i 0)
   pub apart : (i j : ℕ) → i < j → j < es.count → get_or es.from i 0 ≡ get_or es.from j 0 → get_or es.to i 0 ≡ get_or es.to j 0 → ⊥
@@ -202,10 +202,10 @@ module _ (b : Bool) (n : ℕ) (op op' : ℕ → Bool) (place place' : ℕ → �
   es' = with_edges es (map (link b n) others)
 
   ff : es.count ≤ length es.from
-  ff = omega (arith, E.count, E.from-size)
+  ff = omega (arith, E.count, E.from_size)
 
   ft : es.count ≤ length es.to
-  ft = omega (arith, E.count, E.to-size)
+  ft = omega (arith, E.count, E.to_size)
 
   from_old : (i : ℕ) → i < es.count → get_or es'.from i 0 ≡ get_or es.from i 0
   from_old = link-old b n others (λ (e : Edge). e.from) es.count es.from ff
@@ -269,8 +269,8 @@ module _ (b : Bool) (n : ℕ) (op op' : ℕ → Bool) (place place' : ℕ → �
 
   pub edges_more : EdgesSafe (n + 1) op' place' es'
   edges_more = record {
-    from-size = link-length b n others (λ (e : Edge). e.from) es.count es.from ff (omega (arith, links_long b n others, E.from-size)) ∙ E.from-size;
-    to-size = link-length b n others (λ (e : Edge). e.to) es.count es.to ft (omega (arith, links_long b n others, E.to-size)) ∙ E.to-size;
+    from_size = link-length b n others (λ (e : Edge). e.from) es.count es.from ff (omega (arith, links_long b n others, E.from_size)) ∙ E.from_size;
+    to_size = link-length b n others (λ (e : Edge). e.to) es.count es.to ft (omega (arith, links_long b n others, E.to_size)) ∙ E.to_size;
     count = omega (arith, links_long b n others);
     each = each_edged;
     apart = each_apart;

@@ -36,8 +36,8 @@ module _ (front : Bool) (v : ℕ) (others : List ℕ) (k count : ℕ) (from₀ t
     pub size : length others ≡ 64
     pub from_size₀ : length from₀ ≡ 2048
     pub to_size₀ : length to₀ ≡ 2048
-    pub from-size : length from ≡ 2048
-    pub to-size : length to ≡ 2048
+    pub from_size : length from ≡ 2048
+    pub to_size : length to ≡ 2048
     pub from_is : from ≡ appended count (map (λ (e : Edge). e.from) (map (link front v) (take i others))) from₀
     pub to_is : to ≡ appended count (map (λ (e : Edge). e.to) (map (link front v) (take i others))) to₀
 
@@ -49,8 +49,8 @@ module _ (front : Bool) (v : ℕ) (others : List ℕ) (k count : ℕ) (from₀ t
     size = size;
     from_size₀ = hf;
     to_size₀ = ht;
-    from-size = hf;
-    to-size = ht;
+    from_size = hf;
+    to_size = ht;
     from_is = sym (appended-none count from₀ (omega arith));
     to_is = sym (appended-none count to₀ (omega arith));
   }
@@ -75,8 +75,8 @@ module _ (front : Bool) (v : ℕ) (others : List ℕ) (k count : ℕ) (from₀ t
     size = a.size;
     from_size₀ = a.from_size₀;
     to_size₀ = a.to_size₀;
-    from-size = rw (hf, length-set) a.from-size;
-    to-size = rw (ht, length-set) a.to-size;
+    from_size = rw (hf, length-set) a.from_size;
+    to_size = rw (ht, length-set) a.to_size;
     from_is = next (λ (e : Edge). e.from) from₀ from from' i (omega (arith, a)) a.from_size₀ (omega (arith, a)) a.from_is hf;
     to_is = next (λ (e : Edge). e.to) to₀ to to' i (omega (arith, a)) a.to_size₀ (omega (arith, a)) a.to_is ht;
   }
@@ -87,4 +87,4 @@ module _ (front : Bool) (v : ℕ) (others : List ℕ) (k count : ℕ) (from₀ t
       let n : length (map (link front v) (take k others)) ≡ k = length-map (take k others) (link front v) ∙ length-take-le k others (omega (arith, a)) in
       let f = rw z at a.from_is in
       let t = rw z at a.to_is in
-      record { is = rw (n, f, t) refl; from-size = a.from-size; to-size = a.to-size }
+      record { is = rw (n, f, t) refl; from_size = a.from_size; to_size = a.to_size }

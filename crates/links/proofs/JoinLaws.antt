@@ -181,43 +181,43 @@ unfolding link_qubits
 none-linked rule m v x e = rw (e, qubits-none 64 0) refl
 
 -- v joined the two ends as a Set
-module _ (rule : FarRule) (names : NamesAll rule) (mask v : ℕ) (bits : mask < 2 ^ 64) (small : v < 512) (near far : EndState) (nearNode farNode : List ℕ) (nearBlock farBlock : List Bool)
-    (near_fits : EndFits v nearNode near nearBlock) (far_fits : EndFits v farNode far farBlock)
-    (nearNode' farNode' : List ℕ) (nearBlock' farBlock' : List Bool) (others : List ℕ) (k t : ℕ) (n f : EndState)
-    (fresh : ℕ) (gives : Gives rule v near.all far.all fresh) (set-linked : SetLinked mask v near.all fresh nearNode farNode nearBlock nearNode' farNode' nearBlock' others k)
-    (below : mask < 2 ^ t) (low : t ≤ 64) (block : farBlock' ≡ cond (eqb k 0) (set farBlock v true) farBlock)
+module _ (rule : FarRule) (names : NamesAll rule) (mask v : ℕ) (bits : mask < 2 ^ 64) (small : v < 512) (near far : EndState) (near_node far_node : List ℕ) (near_block far_block : List Bool)
+    (near_fits : EndFits v near_node near near_block) (far_fits : EndFits v far_node far far_block)
+    (near_node' far_node' : List ℕ) (near_block' far_block' : List Bool) (others : List ℕ) (k t : ℕ) (n f : EndState)
+    (fresh : ℕ) (gives : Gives rule v near.all far.all fresh) (set-linked : SetLinked mask v near.all fresh near_node far_node near_block near_node' far_node' near_block' others k)
+    (below : mask < 2 ^ t) (low : t ≤ 64) (block : far_block' ≡ cond (eqb k 0) (set far_block v true) far_block)
     (near_grown : StateGrown near t (not (eqb mask 0)) n) (far-grown : StateGrown far t (eqb k 0) f) where
-  linked : link_qubits rule (qubits mask) v (record { near = end_of nearNode near nearBlock; far = end_of farNode far farBlock; others = [] })
-      ≡ record { near = end_with nearNode' near.all nearBlock'; far = end_with farNode' far.all farBlock; others = take k others }
-  linked = set-linked.is rule far.all farBlock gives
+  linked : link_qubits rule (qubits mask) v (record { near = end_of near_node near near_block; far = end_of far_node far far_block; others = [] })
+      ≡ record { near = end_with near_node' near.all near_block'; far = end_with far_node' far.all far_block; others = take k others }
+  linked = set-linked.is rule far.all far_block gives
 
   fits : LinkFits v t n.top f.top small low near_grown.new far-grown.new near_grown.low far-grown.low
-      (record { near = end_with nearNode' near.all nearBlock'; far = end_with farNode' far.all farBlock; others = take k others })
+      (record { near = end_with near_node' near.all near_block'; far = end_with far_node' far.all far_block; others = take k others })
   fits = rw linked at (link_fits v t n.top f.top small low near_grown.new far-grown.new near_grown.low far-grown.low rule names (qubits mask)
-      (record { near = end_of nearNode near nearBlock; far = end_of farNode far farBlock; others = [] })
+      (record { near = end_of near_node near near_block; far = end_of far_node far far_block; others = [] })
       (rw zero-add at (qubits-below 64 0 mask t below))
       (record {
-        near = map_more v (v + 1) near.top n.top nearNode (omega arith) near_grown.old (end_map v nearNode near nearBlock near_fits);
-        far = map_more v (v + 1) far.top f.top farNode (omega arith) far-grown.old (end_map v farNode far farBlock far_fits);
+        near = map_more v (v + 1) near.top n.top near_node (omega arith) near_grown.old (end_map v near_node near near_block near_fits);
+        far = map_more v (v + 1) far.top f.top far_node (omega arith) far-grown.old (end_map v far_node far far_block far_fits);
         all = within_more v (v + 1) near.all.0 (omega arith) near_fits.all;
         far_all_lem = within_more v (v + 1) far.all.0 (omega arith) far_fits.all;
         block = near_fits.blocks;
       }))
 
-  near_some : present n.members ≡ any_of (λ b. b) nearBlock'
+  near_some : present n.members ≡ any_of (λ b. b) near_block'
   near_some =
-      let b = link-block rule (qubits mask) v (record { near = end_of nearNode near nearBlock; far = end_of farNode far farBlock; others = [] }) small near_fits.blocks in
+      let b = link-block rule (qubits mask) v (record { near = end_of near_node near near_block; far = end_of far_node far far_block; others = [] }) small near_fits.blocks in
       rw (near_grown.members, some_grown, near_fits.some) (turned _ (eqb mask 0) ∙ sym (rw (linked, empty-qubits mask bits) at b))
     where
       turned : (a b : Bool) → cond (not b) true a ≡ cond b a true
       turned a true = refl
       turned a false = refl
 
-  near_stays : not (eqb mask 0) ≡ false → nearBlock' ≡ nearBlock
+  near_stays : not (eqb mask 0) ≡ false → near_block' ≡ near_block
   near_stays e = ap (λ (x : Linked). x.near.block) (sym linked ∙ none-linked rule mask v _ (eqb-true mask 0 (not-false _ e)))
 
-  pub joined_set : JoinedBy (link_set rule mask v (end_of nearNode near nearBlock) (end_of farNode far farBlock)) (v + 1)
-      (record { count = k; near = n; far = f }) nearNode' farNode' nearBlock' farBlock' others
+  pub joined_set : JoinedBy (link_set rule mask v (end_of near_node near near_block) (end_of far_node far far_block)) (v + 1)
+      (record { count = k; near = n; far = f }) near_node' far_node' near_block' far_block' others
   unfolding link_set
   joined_set =
       let e = empty-take k others (omega (arith, set-linked.few, set-linked.size)) in
@@ -235,19 +235,19 @@ module _ (rule : FarRule) (names : NamesAll rule) (mask v : ℕ) (bits : mask < 
           low = near_grown.low;
           top = fits.near.top;
           some = near_some;
-          only = only_grown (not (eqb mask 0)) near.members n.members nearBlock nearBlock' near_grown.members near_stays near_fits.only;
+          only = only_grown (not (eqb mask 0)) near.members n.members near_block near_block' near_grown.members near_stays near_fits.only;
         };
         far_fits = record {
           nodes = fits.far.size;
-          blocks = rw (block, join-size (eqb k 0) farBlock v) far_fits.blocks;
+          blocks = rw (block, join-size (eqb k 0) far_block v) far_fits.blocks;
           entries = fits.far.entries;
           all = rw far-grown.all (within_more v (v + 1) far.all.0 (omega arith) far_fits.all);
           low = far-grown.low;
           top = fits.far.top;
           some =
-              let r : v < length farBlock = omega (arith, far_fits.blocks) in
-              rw (block, join_some (eqb k 0) farBlock v r, ← far_fits.some, far-grown.members) (some_grown (eqb k 0) far.members);
-          only = only_grown (eqb k 0) far.members f.members farBlock farBlock' far-grown.members (λ (e : eqb k 0 ≡ false). rw (block, e) refl) far_fits.only;
+              let r : v < length far_block = omega (arith, far_fits.blocks) in
+              rw (block, join_some (eqb k 0) far_block v r, ← far_fits.some, far-grown.members) (some_grown (eqb k 0) far.members);
+          only = only_grown (eqb k 0) far.members f.members far_block far_block' far-grown.members (λ (e : eqb k 0 ≡ false). rw (block, e) refl) far_fits.only;
         };
       }
 
@@ -297,101 +297,101 @@ or_some : (m : ℕ) → present (or_else m several) ≡ true
 or_some m = ⊎_elim (λ (e : eqb m absent ≡ true). rw e refl) (λ (e : eqb m absent ≡ false). rw (e, e) refl) (bool_cases (eqb m absent))
 
 -- v joined the two ends as All
-module _ (v : NodeIndex) (small : v.0 < 512) (near far : EndState) (nearNode farNode : List ℕ) (nearBlock farBlock : List Bool)
-    (near_fits : EndFits v.0 nearNode near nearBlock) (far_fits : EndFits v.0 farNode far farBlock)
-    (nearBlock' farBlock' : List Bool) (others : List ℕ)
-    (near_block : nearBlock' ≡ set (replicate 512 false) v.0 true) (far-block : farBlock' ≡ cond (eqb far.members absent) (set farBlock v.0 true) farBlock) where
+module _ (v : NodeIndex) (small : v.0 < 512) (near far : EndState) (near_node far_node : List ℕ) (near_block far_block : List Bool)
+    (near_fits : EndFits v.0 near_node near near_block) (far_fits : EndFits v.0 far_node far far_block)
+    (near_block' far_block' : List Bool) (others : List ℕ)
+    (near_put : near_block' ≡ set (replicate 512 false) v.0 true) (far_put : far_block' ≡ cond (eqb far.members absent) (set far_block v.0 true) far_block) where
   -- the near end with this map, and the far end
-  near_end : (nearNode' : List ℕ) (t : ℕ) → t ≤ 64 → MapFits (v.0 + 1) t nearNode' → EndFits (v.0 + 1) nearNode' (near_state v t) nearBlock'
-  near_end nearNode' t low m =
+  near_end : (near_node' : List ℕ) (t : ℕ) → t ≤ 64 → MapFits (v.0 + 1) t near_node' → EndFits (v.0 + 1) near_node' (near_state v t) near_block'
+  near_end near_node' t low m =
       let n : length (replicate 512 false) ≡ 512 = length-replicate 512 false in
       let p : eqb v.0 absent ≡ false = ne_eqb v.0 absent (omega arith) in
       record {
         nodes = m.size;
-        blocks = rw (near_block, length-set) n;
+        blocks = rw (near_put, length-set) n;
         entries = m.entries;
         all = λ p. omega arith;
         low = low;
         top = m.top;
-        some = rw (p, near_block) (sym (any_set (replicate 512 false) v.0 (omega (arith, n))));
-        only = λ h. near_block;
+        some = rw (p, near_put) (sym (any_set (replicate 512 false) v.0 (omega (arith, n))));
+        only = λ h. near_put;
       }
 
-  far_end : (farNode' : List ℕ) (t : ℕ) → t ≤ 64 → MapFits (v.0 + 1) t farNode' → EndFits (v.0 + 1) farNode' (far_state far v t) farBlock'
-  far_end farNode' t low m = record {
+  far_end : (far_node' : List ℕ) (t : ℕ) → t ≤ 64 → MapFits (v.0 + 1) t far_node' → EndFits (v.0 + 1) far_node' (far_state far v t) far_block'
+  far_end far_node' t low m = record {
     nodes = m.size;
-    blocks = rw (far-block, join-size (eqb far.members absent) farBlock v.0) far_fits.blocks;
+    blocks = rw (far_put, join-size (eqb far.members absent) far_block v.0) far_fits.blocks;
     entries = m.entries;
     all = or-within (v.0 + 1) far.all.0 v.0 (within_more v.0 (v.0 + 1) far.all.0 (omega arith) far_fits.all) (λ p. omega arith);
     low = low;
     top = m.top;
     some =
-        let r : v.0 < length farBlock = omega (arith, far_fits.blocks) in
-        or_some far.members ∙ sym (rw (far-block, join_some (eqb far.members absent) farBlock v.0 r, ← far_fits.some) (or-not (eqb far.members absent)));
-    only = only_grown (eqb far.members absent) far.members (or_else far.members several) farBlock farBlock' (cond-not (eqb far.members absent) far.members several)
-        (λ (e : eqb far.members absent ≡ false). rw (far-block, e) refl) far_fits.only;
+        let r : v.0 < length far_block = omega (arith, far_fits.blocks) in
+        or_some far.members ∙ sym (rw (far_put, join_some (eqb far.members absent) far_block v.0 r, ← far_fits.some) (or-not (eqb far.members absent)));
+    only = only_grown (eqb far.members absent) far.members (or_else far.members several) far_block far_block' (cond-not (eqb far.members absent) far.members several)
+        (λ (e : eqb far.members absent ≡ false). rw (far_put, e) refl) far_fits.only;
   }
 
-  far-is : farBlock' ≡ cond (any_of (λ b. b) farBlock) farBlock (set farBlock v.0 true)
-  far-is = rw (far-block, ← far_fits.some) (sym (cond-not (eqb far.members absent) farBlock (set farBlock v.0 true)))
+  far-is : far_block' ≡ cond (any_of (λ b. b) far_block) far_block (set far_block v.0 true)
+  far-is = rw (far_put, ← far_fits.some) (sym (cond-not (eqb far.members absent) far_block (set far_block v.0 true)))
 
   module _ (n f : EndState) where
     -- "If both maps are empty, qubit 0 maps to v in both."
-    pub joined-none : (not (any_of present nearNode) && not (any_of present farNode)) ≡ true → (nearNode' farNode' : List ℕ)
-        → nearNode' ≡ set nearNode 0 v.0 → farNode' ≡ set farNode 0 v.0 → length others ≡ 64 → n ≡ near_state v 1 → f ≡ far_state far v 1
-        → JoinedBy (link_all v.0 (end_of nearNode near nearBlock) (end_of farNode far farBlock)) (v.0 + 1)
-        (record { count = 0; near = n; far = f }) nearNode' farNode' nearBlock' farBlock' others
+    pub joined-none : (not (any_of present near_node) && not (any_of present far_node)) ≡ true → (near_node' far_node' : List ℕ)
+        → near_node' ≡ set near_node 0 v.0 → far_node' ≡ set far_node 0 v.0 → length others ≡ 64 → n ≡ near_state v 1 → f ≡ far_state far v 1
+        → JoinedBy (link_all v.0 (end_of near_node near near_block) (end_of far_node far far_block)) (v.0 + 1)
+        (record { count = 0; near = n; far = f }) near_node' far_node' near_block' far_block' others
     unfolding link_all
-    joined-none e nearNode' farNode' hn hf size en ef =
-        let b = both_true (not (any_of present nearNode)) (not (any_of present farNode)) e in
+    joined-none e near_node' far_node' hn hf size en ef =
+        let b = both_true (not (any_of present near_node)) (not (any_of present far_node)) e in
         record {
-          near = rw (e, hn, near_block, en) refl;
+          near = rw (e, hn, near_put, en) refl;
           far = rw (e, hf, far-is, ef) refl;
           joined = rw e refl;
           few = omega arith;
           size = size;
-          near_fits = rw en (near_end nearNode' 1 (omega arith) (rw hn (first_entry v.0 nearNode near_fits.nodes (not-true _ b.0))));
-          far_fits = rw ef (far_end farNode' 1 (omega arith) (rw hf (first_entry v.0 farNode far_fits.nodes (not-true _ b.1))));
+          near_fits = rw en (near_end near_node' 1 (omega arith) (rw hn (first_entry v.0 near_node near_fits.nodes (not-true _ b.0))));
+          far_fits = rw ef (far_end far_node' 1 (omega arith) (rw hf (first_entry v.0 far_node far_fits.nodes (not-true _ b.1))));
         }
 
     -- "Else every node in the last map points to v and all its qubits map to v."
-    pub joined_all : (not (any_of present nearNode) && not (any_of present farNode)) ≡ false → (nearNode' : List ℕ) (k : ℕ)
-        → AllLinked v.0 nearNode nearNode' others k → n ≡ near_state v near.top → f ≡ far_state far v far.top
-        → JoinedBy (link_all v.0 (end_of nearNode near nearBlock) (end_of farNode far farBlock)) (v.0 + 1)
-        (record { count = k; near = n; far = f }) nearNode' farNode nearBlock' farBlock' others
+    pub joined_all : (not (any_of present near_node) && not (any_of present far_node)) ≡ false → (near_node' : List ℕ) (k : ℕ)
+        → AllLinked v.0 near_node near_node' others k → n ≡ near_state v near.top → f ≡ far_state far v far.top
+        → JoinedBy (link_all v.0 (end_of near_node near near_block) (end_of far_node far far_block)) (v.0 + 1)
+        (record { count = k; near = n; far = f }) near_node' far_node near_block' far_block' others
     unfolding link_all
-    joined_all e nearNode' k h en ef = record {
-      near = rw (e, h.is, near_block, en) refl;
+    joined_all e near_node' k h en ef = record {
+      near = rw (e, h.is, near_put, en) refl;
       far = rw (e, far-is, ef) refl;
       joined = rw e h.joined;
       few = h.few;
       size = h.size;
-      near_fits = rw en (near_end nearNode' near.top near_fits.low (rw h.is (become_fits v.0 near.top nearNode (end_map v.0 nearNode near nearBlock near_fits))));
-      far_fits = rw ef (far_end farNode far.top far_fits.low
-          (map_more v.0 (v.0 + 1) far.top far.top farNode (omega arith) (omega arith) (end_map v.0 farNode far farBlock far_fits)));
+      near_fits = rw en (near_end near_node' near.top near_fits.low (rw h.is (become_fits v.0 near.top near_node (end_map v.0 near_node near near_block near_fits))));
+      far_fits = rw ef (far_end far_node far.top far_fits.low
+          (map_more v.0 (v.0 + 1) far.top far.top far_node (omega arith) (omega arith) (end_map v.0 far_node far far_block far_fits)));
     }
 
 -- ---- none, and the mirror
 
 -- "get no edge and join nothing"
-pub joined_nothing : (rule : FarRule) (v : ℕ) (near far : EndState) (nearNode farNode : List ℕ) (nearBlock farBlock : List Bool) (others : List ℕ)
-    → EndFits v nearNode near nearBlock → EndFits v farNode far farBlock → length others ≡ 64
-    → JoinedBy (link_by None rule v (end_of nearNode near nearBlock) (end_of farNode far farBlock)) (v + 1)
-    (record { count = 0; near = near; far = far }) nearNode farNode nearBlock farBlock others
-joined_nothing rule v near far nearNode farNode nearBlock farBlock others hn hf size = record {
+pub joined_nothing : (rule : FarRule) (v : ℕ) (near far : EndState) (near_node far_node : List ℕ) (near_block far_block : List Bool) (others : List ℕ)
+    → EndFits v near_node near near_block → EndFits v far_node far far_block → length others ≡ 64
+    → JoinedBy (link_by None rule v (end_of near_node near near_block) (end_of far_node far far_block)) (v + 1)
+    (record { count = 0; near = near; far = far }) near_node far_node near_block far_block others
+joined_nothing rule v near far near_node far_node near_block far_block others hn hf size = record {
   near = refl;
   far = refl;
   joined = refl;
   few = omega arith;
   size = size;
-  near_fits = fits_more v (v + 1) nearNode near nearBlock (omega arith) hn;
-  far_fits = fits_more v (v + 1) farNode far farBlock (omega arith) hf;
+  near_fits = fits_more v (v + 1) near_node near near_block (omega arith) hn;
+  far_fits = fits_more v (v + 1) far_node far far_block (omega arith) hf;
 }
 
 -- first and last, by near and far
-module _ (x : Linked) (n : ℕ) (r : Joined) (firstNode lastNode : List ℕ) (firstBlock lastBlock : List Bool) (others : List ℕ) where
-  pub joined_back : JoinedBy x n r lastNode firstNode lastBlock firstBlock others
-      → JoinedEndsBy false x n (record { count = r.count; first = r.far; last = r.near }) firstNode lastNode firstBlock lastBlock others
+module _ (x : Linked) (n : ℕ) (r : Joined) (first_node last_node : List ℕ) (first_block last_block : List Bool) (others : List ℕ) where
+  pub joined_back : JoinedBy x n r last_node first_node last_block first_block others
+      → JoinedEndsBy false x n (record { count = r.count; first = r.far; last = r.near }) first_node last_node first_block last_block others
   joined_back j = record {
     first = j.far;
     last = j.near;
@@ -402,8 +402,8 @@ module _ (x : Linked) (n : ℕ) (r : Joined) (firstNode lastNode : List ℕ) (fi
     last_fits = j.near_fits;
   }
 
-  pub joined-front : JoinedBy x n r firstNode lastNode firstBlock lastBlock others
-      → JoinedEndsBy true x n (record { count = r.count; first = r.near; last = r.far }) firstNode lastNode firstBlock lastBlock others
+  pub joined-front : JoinedBy x n r first_node last_node first_block last_block others
+      → JoinedEndsBy true x n (record { count = r.count; first = r.near; last = r.far }) first_node last_node first_block last_block others
   joined-front j = record {
     first = j.near;
     last = j.far;

@@ -358,11 +358,11 @@ module _ (m v q : ℕ) (first last : End) (among : member q (qubits m) ≡ true)
   pub new-front : present (at_qubit first q) ≡ false → present first.all.0 ≡ true → at_qubit (link_at near_all true (Set m) v first last).far q ≡ first.all.0
   new-front n a = (set_entries near_all (λ near far v q. refl) m v q first last among in_first in-last).1 ∙ rw (n, a) refl
 
-  -- K6: "a new qubit added at the back gets first[q] = first_all, ..
+  -- K6: "a new qubit added at the back gets first[q] = firstAll, ..
   pub far-back : present (at_qubit last q) ≡ false → present first.all.0 ≡ true → at_qubit (link_at far_all false (Set m) v first last).far q ≡ first.all.0
   far-back n a = (set_entries far_all (λ near far v q. refl) m v q last first among in-last in_first).1 ∙ rw (n, a) refl
 
-  -- .. and one added at the front gets last[q] = last_all, ..
+  -- .. and one added at the front gets last[q] = lastAll, ..
   pub far-front : present (at_qubit first q) ≡ false → present last.all.0 ≡ true → at_qubit (link_at far_all true (Set m) v first last).far q ≡ last.all.0
   far-front n a = (set_entries far_all (λ near far v q. refl) m v q first last among in_first in-last).1 ∙ rw (n, a) refl
 

@@ -185,8 +185,8 @@ onward rule file l y = elim y.answer [ Done ↦ link_records rule file y l | Ref
 pub record Linking (rule : FarRule) (file order : List ℕ) (k count : ℕ) (first last : EndState) (from to fn ln : List ℕ) (fb lb : List Bool) : Type 0 where
   pub low : k ≤ length order
   pub room : count ≤ 2048
-  pub from-size : length from ≡ 2048
-  pub to-size : length to ≡ 2048
+  pub from_size : length from ≡ 2048
+  pub to_size : length to ≡ 2048
   pub first_fits : EndFits k fn first fb
   pub last_fits : EndFits k ln last lb
   pub same : link_records rule file (links_from k (record { count = count; from = from; to = to }) (end_of fn first fb) (end_of ln last lb)) (drop k order) ≡ link_records rule file no_links order
@@ -196,8 +196,8 @@ unfolding empty no_end
 begin rule file order = record {
   low = omega arith;
   room = omega arith;
-  from-size = length-replicate {A = ℕ} 2048 0;
-  to-size = length-replicate {A = ℕ} 2048 0;
+  from_size = length-replicate {A = ℕ} 2048 0;
+  to_size = length-replicate {A = ℕ} 2048 0;
   first_fits = fits_none;
   last_fits = fits_none;
   same = refl;
@@ -242,8 +242,8 @@ module _ (rule : FarRule) (file order : List ℕ) (k count : ℕ) (first last : 
         again m from' to' a = record {
           low = omega arith;
           room = m;
-          from-size = a.from-size;
-          to-size = a.to-size;
+          from_size = a.from_size;
+          to_size = a.to_size;
           first_fits = j.first_fits;
           last_fits = j.last_fits;
           same = goes _ (grows rule i r.front r.qubits k _ _ _ small s fn' ln' fb' lb' others j m from' to' a);

@@ -127,32 +127,32 @@ abbrev pub joined_ends : ℕ → List ℕ → List ℕ → JoinedEnds
 joined_ends k first last = record { count = k; first = end_state first; last = end_state last }
 
 -- near and far after the new node joined them: the ends and others of the rule's x, on a graph of n nodes
-pub record JoinedBy (x : Linked) (n : ℕ) (r : Joined) (nearNode farNode : List ℕ) (nearBlock farBlock : List Bool) (others : List ℕ) : Type 0 where
-  pub near : end_of nearNode r.near nearBlock ≡ x.near
-  pub far : end_of farNode r.far farBlock ≡ x.far
+pub record JoinedBy (x : Linked) (n : ℕ) (r : Joined) (near_node far_node : List ℕ) (near_block far_block : List Bool) (others : List ℕ) : Type 0 where
+  pub near : end_of near_node r.near near_block ≡ x.near
+  pub far : end_of far_node r.far far_block ≡ x.far
   pub joined : take r.count others ≡ x.others
   pub few : r.count ≤ 64
   pub size : length others ≡ 64
-  pub near_fits : EndFits n nearNode r.near nearBlock
-  pub far_fits : EndFits n farNode r.far farBlock
+  pub near_fits : EndFits n near_node r.near near_block
+  pub far_fits : EndFits n far_node r.far far_block
 
 -- the edge arrays after v was joined with the first k of the others, behind count edges: "add source to v", "edges out of v" at the front
 pub record EdgesAdded (front : Bool) (v : ℕ) (others : List ℕ) (k count : ℕ) (from to from' to' : List ℕ) : Type 0 where
   pub is : ◌≡◌ {A = Edges} (record { count = count + k; from = from'; to = to' })
       (with_edges (record { count = count; from = from; to = to }) (map (link front v) (take k others)))
-  pub from-size : length from' ≡ 2048
-  pub to-size : length to' ≡ 2048
+  pub from_size : length from' ≡ 2048
+  pub to_size : length to' ≡ 2048
 
 -- first and last after the new node joined them: near is last at the back and first at the front
 pub record JoinedEndsBy (front : Bool) (x : Linked) (n : ℕ) (r : JoinedEnds)
-    (firstNode lastNode : List ℕ) (firstBlock lastBlock : List Bool) (others : List ℕ) : Type 0 where
-  pub first : end_of firstNode r.first firstBlock ≡ cond front x.near x.far
-  pub last : end_of lastNode r.last lastBlock ≡ cond front x.far x.near
+    (first_node last_node : List ℕ) (first_block last_block : List Bool) (others : List ℕ) : Type 0 where
+  pub first : end_of first_node r.first first_block ≡ cond front x.near x.far
+  pub last : end_of last_node r.last last_block ≡ cond front x.far x.near
   pub joined : take r.count others ≡ x.others
   pub few : r.count ≤ 64
   pub size : length others ≡ 64
-  pub first_fits : EndFits n firstNode r.first firstBlock
-  pub last_fits : EndFits n lastNode r.last lastBlock
+  pub first_fits : EndFits n first_node r.first first_block
+  pub last_fits : EndFits n last_node r.last last_block
 
 -- the numbers of an end of a graph: nothing is mapped from 64 on, and of the block it is said only whether it has a node
 abbrev pub end_state_of : End → EndState

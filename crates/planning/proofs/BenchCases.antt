@@ -57,7 +57,7 @@ bench_table = record {
   condition_met = (record { bytes = refl; one_all = λ a b. omega arith }, record { bytes = refl; one_all = λ a b. no_front a });
 }
 
--- "first[q] becomes lastAll": B All, B All, B{3} gives first[3] = 1, where first_all would give 0. No case of the table tells the two apart.
+-- "first[q] becomes lastAll": B All, B All, B{3} gives first[3] = 1, where firstAll would give 0. No case of the table tells the two apart.
 far_of_new : at_qubit (final one_end).first 3 ≡ 1
 unfolding rules
 far_of_new = refl

@@ -20,7 +20,7 @@ use Rattle.walk.proofs.BlockLaws.{rank, upward, first_start}
 use Rattle.walk.proofs.NumberLaws.{some_first}
 use Rattle.guarantee.proofs.Nets.{Net, is_op, on_op, clashes}
 use Rattle.guarantee.proofs.NetRuns.{clash-on}
-use Rattle.guarantee.proofs.AcceptedNets.{calls_from, net_of, no_record, at, Built, built as built-net}
+use Rattle.guarantee.proofs.AcceptedNets.{calls_from, net_of, no_record, at, bytes_by, Built, built as built-net}
 use Rattle.guarantee.proofs.RecordTakes.{takes_qubits_lem, clash-is}
 use Rattle.planning.specs.Chain.{chain_of}
 use Rattle.planning.specs.Chains.{Consecutive, record_of, BuiltChain, Chains}
@@ -88,13 +88,8 @@ module _ (calls : List Call) (bytes : Bytes (bytes_of calls)) where
     clashing = consecutive_map (λ v u. E g s u v) (λ v u. clash (record_of calls u) (record_of calls v)) edge-clash (chain_of g) (sound-chain g s).joined;
   }
 
--- insertions by one rule have the records of their list
-bytes_back : (rule : LoadingRule) (l : List (List ℕ)) → bytes_of (all_by rule l) ≡ l
-bytes_back rule [] = refl
-bytes_back rule (s ∷ l) = ap (λ (t : List (List ℕ)). s ∷ t) (bytes_back rule l)
-
 by_rule : (rule : LoadingRule) (l : List (List ℕ)) → Bytes l → BuiltChain (all_by rule l)
-by_rule rule l h = built-chain (all_by rule l) (subst Bytes (sym (bytes_back rule l)) h)
+by_rule rule l h = built-chain (all_by rule l) (subst Bytes (sym (bytes_by rule l)) h)
 
 -- every chain
 pub chains : Chains

@@ -22,10 +22,10 @@ use Rattle.walk.specs.declared.BlockCount.TheVariants.{Blocks}
 use Rattle.walk.specs.Blocks.{Walked, blocks, number_from, block_numbers, block_of_step}
 use Rattle.walk.proofs.Bounds.{any, any_intro, any_elim, any_none, and-any, split_lt}
 use Rattle.walk.proofs.Heights.{block}
-use Rattle.walk.proofs.HeightSteps.{block_pred, least, least-has, chain_from as leastFrom, Falls, bottom, fall, chain_length, chain_falls}
+use Rattle.walk.proofs.HeightSteps.{block_pred, least, least-has, chain_from as least_from, Falls, bottom, fall, chain_length, chain_falls}
 use Rattle.walk.proofs.BlockSteps.{block-at, not-empty}
 use Rattle.walk.proofs.BlockLaws.{W, edges, firsts, rank, upward, first_start, block_told, blocks_few, before_last}
-use Rattle.walk.proofs.NumberLaws.{number_of, Numbered, in_block as inItsBlock, in_none, number_cases, some_first, number-block, block_low}
+use Rattle.walk.proofs.NumberLaws.{number_of, Numbered, in_block as in_its_block, in_none, number_cases, some_first, number-block, block_low}
 use Rattle.walk.proofs.WholeLaws.{walk_done}
 use Rattle.planning.specs.Chain.{in_block, chain_from, chain_down, chain_of}
 use Rattle.planning.specs.Chains.{Consecutive, SoundChain}
@@ -103,7 +103,7 @@ module _ (g : CircuitDag) (s : sound g ≡ true) where
   ]
     where
       held : number_of g s u ≡ t → Numbered g s u → blk t u ≡ true
-      held e (inItsBlock b k) = ap (λ (x : ℕ). blk x u) (sym e) ∙ b
+      held e (in_its_block b k) = ap (λ (x : ℕ). blk x u) (sym e) ∙ b
       held e (in_none f k) = absurd (omega arith)
 
   -- the nodes of block t that pass, from the least on
@@ -114,8 +114,8 @@ module _ (g : CircuitDag) (s : sound g ≡ true) where
       (r.0, (λ i. keep (same i) (up_to (numbers_long i))) ∙ r.1)
 
   -- the chain from a node on, by least direct predecessors
-  pub from-node : (t v : ℕ) (l : List ℕ) → blk t v ≡ true → chain_from g (block_numbers g) t (v ∷ l) ≡ leastFrom n E F t v
-  unfolding chain_from leastFrom
+  pub from-node : (t v : ℕ) (l : List ℕ) → blk t v ≡ true → chain_from g (block_numbers g) t (v ∷ l) ≡ least_from n E F t v
+  unfolding chain_from least_from
   from-node zero v l b = refl
   from-node (suc t) v l b =
       let x = block_pred n E (rank g s) (upward g s) F (first_start g s) (some_first g s (suc t) v b) t v b in
@@ -138,7 +138,7 @@ module _ (g : CircuitDag) (s : sound g ≡ true) where
   pub top_in : (t : ℕ) → t < length (blocks g) → blk t (top t) ≡ true
   top_in t l = let r = last_block t l in and_l _ true (least-has n (λ w. blk t w && true) (and-any n (blk t) (λ w. true) r.0 (block_told g s t r.0 r.1).0 r.1 refl))
 
-  pub chain-is : (t : ℕ) → suc t ≡ length (blocks g) → chain_of g ≡ leastFrom n E F t (top t)
+  pub chain-is : (t : ℕ) → suc t ≡ length (blocks g) → chain_of g ≡ least_from n E F t (top t)
   unfolding chain_of
   chain-is t e =
       let l : t < length (blocks g) = omega arith in

@@ -25,7 +25,7 @@ use Rattle.walk.specs.declared.BlockCount.{BlockCount}
 use Rattle.walk.specs.declared.BlockCount.TheVariants.{Blocks, Refused as NotWalked}
 use Rattle.walk.specs.Blocks.{Walked, blocks, block_numbers, whole_walk}
 use Rattle.walk.specs.Numbering.{at, Joined}
-use Rattle.walk.proofs.HeightSteps.{block_pred, chain_from as leastFrom}
+use Rattle.walk.proofs.HeightSteps.{block_pred, chain_from as least_from}
 use Rattle.walk.proofs.BlockSteps.{edge-at, at_edge}
 use Rattle.walk.proofs.BlockLaws.{W, rank, upward, first_start, block_told, blocks_few}
 use Rattle.walk.proofs.NumberLaws.{some_first, block_low}
@@ -175,8 +175,8 @@ module _ (g : CircuitDag) (s : sound g ≡ true) (number : List ℕ) (same : (u 
       let e : E g s u v ≡ true = (λ i. E g s (sym p.2 i) (sym p.1.1 i)) ∙ at_edge g p.0 p.1.0 in
       and_intro _ _ (held t u l ((W g s).from u v e) (ap (at number) (sym p.2) ∙ p.1.2)) e
 
-  descent_is : {t v : ℕ} {l : List ℕ} → Descent number from to m t v l → blk g s t v ≡ true → l ≡ leastFrom n (E g s) (F g s) t v
-  unfolding leastFrom
+  descent_is : {t v : ℕ} {l : List ℕ} → Descent number from to m t v l → blk g s t v ≡ true → l ≡ least_from n (E g s) (F g s) t v
+  unfolding least_from
   descent_is bottom b = refl
   descent_is (below {t} {v} {u} {l} S d) b =
       let low : t < 65535 = omega (arith, block_low g s (suc t) v b, (W g s).cap) in
@@ -184,7 +184,7 @@ module _ (g : CircuitDag) (s : sound g ≡ true) (number : List ℕ) (same : (u 
       let p = edge-before t u v low (S.passes x.0 (before-edge t x.0 v low x.1 x.2)) in
       let q = least-is n (λ w. blk g s t w && E g s w v) u ((W g s).from u v (and_r (blk g s t u) _ p)) p
       (λ w h. S.least w (before-edge t w v low (and_l (blk g s t w) (E g s w v) h) (and_r (blk g s t w) (E g s w v) h))) in
-      ap (λ (k : List ℕ). v ∷ k) (descent_is d (and_l (blk g s t u) (E g s u v) p) ∙ ap (leastFrom n (E g s) (F g s) t) (sym q))
+      ap (λ (k : List ℕ). v ∷ k) (descent_is d (and_l (blk g s t u) (E g s u v) p) ∙ ap (least_from n (E g s) (F g s) t) (sym q))
 
   -- the smallest node of the last block
   top-is : (t r : ℕ) → t < length (blocks g) → Smallest (InBlock number n t) r → r ≡ top g s t
@@ -202,7 +202,7 @@ module _ (g : CircuitDag) (s : sound g ≡ true) (number : List ℕ) (same : (u 
   chain-done k t r old new e room some z S D =
       let l : t < length (blocks g) = omega arith in
       let q = top-is t r l S in
-      let c = descent_is D.descent (ap (blk g s t) q ∙ top_in g s t l) ∙ ap (leastFrom n (E g s) (F g s) t) q ∙ sym (chain-is g s t (omega arith)) in
+      let c = descent_is D.descent (ap (blk g s t) q ∙ top_in g s t l) ∙ ap (least_from n (E g s) (F g s) t) q ∙ sym (chain-is g s t (omega arith)) in
       rw s (answers-whole (chain_of g) old new k (e ∙ sym (chain_long g s)) room (D.put ∙ ap (λ (x : List ℕ). put_at 0 x old) c))
 
 -- ---- the other ways

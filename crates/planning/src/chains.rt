@@ -1,7 +1,7 @@
 // The chain: from the smallest node of the last block down to block 0.
 ghost use Rattle.std.specs.Prelude.{◌≡◌, cond, ◌&&◌, ◌+◌, ◌≤◌, ◌<◌, min, eqb, length};
 ghost use Rattle.walk.specs.Numbering.{Joined};
-ghost use Rattle.planning.specs.Chain.{chain as chainRule};
+ghost use Rattle.planning.specs.Chain.{chain as chain_rule};
 ghost use Rattle.planning.specs.Descents.{InBlock, Before, Smallest, Descended};
 
 use file::Refusal;
@@ -105,7 +105,7 @@ fn descend(
 
 // "The chain starts at the smallest node of the last block": its nodes to the lent buffer, and how many they are.
 pub fn chain(dag: CircuitDag, buffer: &mut [u16]) -> Query
-    ensures { record { answer = result; buffer = buffer.new } ≡ chainRule dag buffer.old }
+    ensures { record { answer = result; buffer = buffer.new } ≡ chain_rule dag buffer.old }
 {
     let mut number = [65535u16; 512];
     let walked = walk::whole_walk(dag, &mut number);

@@ -351,7 +351,7 @@ pub orders_fewer : (near far : List ℕ) (m k : ℕ) → k ≤ m → Ordered nea
 orders_fewer near far m k h O = record { rises = λ i l. O.rises i (omega arith); ascends = λ i j a l. O.ascends i j a (omega arith) }
 
 pub ends_fewer : (near far : List ℕ) (m k : ℕ) → k ≤ m → EndsBelow near far m → EndsBelow near far k
-ends_fewer near far m k h E = record { count = omega (arith, E.count); near_below = λ i l. E.near_below i (omega arith); far-below = λ i l. E.far-below i (omega arith) }
+ends_fewer near far m k h E = record { count = omega (arith, E.count); near_below = λ i l. E.near_below i (omega arith); far_below = λ i l. E.far_below i (omega arith) }
 
 -- the edges from i to k - 1 carry no mark further
 module _ (near far : List ℕ) (k : ℕ) (mark₀ : List Bool) where

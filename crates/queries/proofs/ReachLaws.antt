@@ -330,14 +330,14 @@ module _ (g : CircuitDag) (S : Sound g) where
   ends_back = record {
     count = S.edge_count;
     near_below = λ i l. omega (arith, S.from-below i l, S.node-count);
-    far-below = λ i l. omega (arith, S.to_below i l, S.node-count);
+    far_below = λ i l. omega (arith, S.to_below i l, S.node-count);
   }
 
   pub ends_on : EndsBelow g.edges.to g.edges.from m
   ends_on = record {
     count = S.edge_count;
     near_below = λ i l. omega (arith, S.to_below i l, S.node-count);
-    far-below = λ i l. omega (arith, S.from-below i l, S.node-count);
+    far_below = λ i l. omega (arith, S.from-below i l, S.node-count);
   }
 
   module _ (v : ℕ) (low : v < size g) where

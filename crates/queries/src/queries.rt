@@ -4,7 +4,7 @@ ghost use Rattle.std.proofs.Math.Seq.{slice};
 ghost use Rattle.file.specs.Lists.{members, put_at};
 ghost use Rattle.queries.specs.Marks.{no_node, every_node, kept, without, layer_by, Listed, EndsBelow, Ordered, LeadsAbove, Neighbours};
 ghost use Rattle.queries.specs.Marks.{Swept, Closed, Waiting, FirstAt};
-ghost use Rattle.queries.specs.Queries.{answers, execution_blocked, blocking_predecessors, successors as successorsRule, new_front_layer};
+ghost use Rattle.queries.specs.Queries.{answers, execution_blocked, blocking_predecessors, successors as successors_rule, new_front_layer};
 
 use crate::Query;
 use file::Refusal;
@@ -429,7 +429,7 @@ pub fn blocking_predecessors(
 
 // The direct successors of v, ascending.
 pub fn successors(g: CircuitDag, v: NodeIndex, buffer: &mut [u16]) -> Query
-    ensures { record { answer = result; buffer = buffer.new } ≡ successorsRule g v.0 buffer.old }
+    ensures { record { answer = result; buffer = buffer.new } ≡ successors_rule g v.0 buffer.old }
 {
     if !is_sound(g) {
         return Query::Refused(Refusal::Unsound);

@@ -72,7 +72,7 @@ module _ (s : List ℕ) (v : ℕ) (first last first' last' : Registers) (become 
     unfolding registers_after
     is-stored k =
         let z : pass (cond (front s) first' last') (cond (front s) last' first') ≡ false = counts_facing (front s) first' last' ∙ room in
-        kept (front s) (maps_after s v first last) (become.both.near_map z) (become.both.far-map z) k
+        kept (front s) (maps_after s v first last) (become.both.near_map z) (become.both.far_map z) k
 
     pub fit : Fits first → Fits last → Fits first' × Fits last'
     fit f g = ends_fit (front s) (classical_of s) s v first last first' last' f g become

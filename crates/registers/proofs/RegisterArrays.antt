@@ -256,9 +256,9 @@ pub both_over : (k : InvolvedClassical) (s : List ℕ) (v : ℕ) (near far near'
 both_over k s v near far near' far' a b = record {
   passes = a ∙ sym b;
   near_count = λ e. absurd (clash_bool a e);
-  far-count = λ e. absurd (clash_bool a e);
+  far_count = λ e. absurd (clash_bool a e);
   near_map = λ e. absurd (clash_bool a e);
-  far-map = λ e. absurd (clash_bool a e);
+  far_map = λ e. absurd (clash_bool a e);
 }
 
 pub both_are : (k : InvolvedClassical) (s : List ℕ) (v : ℕ) (near far near' far' : Registers) → near' ≡ with_entries near (joined k s v near far).near
@@ -269,7 +269,7 @@ both_are k s v near far near' far' a b =
     record {
       passes = rw (m, n) refl;
       near_count = λ _. m;
-      far-count = λ _. n;
+      far_count = λ _. n;
       near_map = λ _. a;
-      far-map = λ _. b;
+      far_map = λ _. b;
     }

@@ -80,9 +80,9 @@ join_each k s v near far near' far' h a b =
     record {
       passes = rw (a.passes, b.passes) (ap (λ (x : Maps). ltb 256 (length x.near) || ltb 256 (length x.far)) (sym e));
       near_count = λ r. ap (λ (x : Registers). x.count) (c r);
-      far-count = λ r. ap (λ (x : Registers). x.count) (d r);
+      far_count = λ r. ap (λ (x : Registers). x.count) (d r);
       near_map = c;
-      far-map = d;
+      far_map = d;
     }
 
 -- .. with a Set both maps are made at once
@@ -223,7 +223,7 @@ pub fits_again : (k : InvolvedClassical) (s : List ℕ) (v : ℕ) (near far near
 fits_again k s v near far near' far' f g b e =
     let d = keys_kept k s v (maps_of near far) f.keys g.keys in (
       refit near near' _ f.sized d.0 (b.near_map e) (ltb-false 256 near'.count (or_l (ltb 256 near'.count) (ltb 256 far'.count) e)),
-      refit far far' _ g.sized d.1 (b.far-map e) (ltb-false 256 far'.count (or_r (ltb 256 near'.count) (ltb 256 far'.count) e)),
+      refit far far' _ g.sized d.1 (b.far_map e) (ltb-false 256 far'.count (or_r (ltb 256 near'.count) (ltb 256 far'.count) e)),
     )
   where
     refit : (old new : Registers) (l : List Entry) → Sized old → distinct same_key l ≡ true → new ≡ with_entries old l → new.count ≤ 256 → Fits new

@@ -60,9 +60,9 @@ joined k s v near far = registers_by k s v (maps_of near far)
 pub record BothBecome (k : InvolvedClassical) (s : List ℕ) (v : ℕ) (near far near' far' : Registers) : Type 0 where
   pub passes : pass near' far' ≡ (ltb 256 (length (joined k s v near far).near) || ltb 256 (length (joined k s v near far).far))
   pub near_count : pass near' far' ≡ false → near'.count ≡ length (joined k s v near far).near
-  pub far-count : pass near' far' ≡ false → far'.count ≡ length (joined k s v near far).far
+  pub far_count : pass near' far' ≡ false → far'.count ≡ length (joined k s v near far).far
   pub near_map : pass near' far' ≡ false → near' ≡ with_entries near (joined k s v near far).near
-  pub far-map : pass near' far' ≡ false → far' ≡ with_entries far (joined k s v near far).far
+  pub far_map : pass near' far' ≡ false → far' ≡ with_entries far (joined k s v near far).far
 
 -- the same of the maps first and last: at the back last is near, at the front first
 pub record EndsBecome (front : Bool) (k : InvolvedClassical) (s : List ℕ) (v : ℕ) (first last first' last' : Registers) : Type 0 where

@@ -5,7 +5,7 @@ ghost use Rattle.std.specs.Prelude.{◌≡◌, ℕ};
 ghost use Rattle.file.specs.declared.Refusal.{Refusal};
 ghost use Rattle.links.specs.Links.{NearAll, FarAll};
 ghost use Rattle.schedule.specs.Schedule.{schedule_by, Condition, Meets, Scheduled, ScheduledBy, NotScheduled, NotScheduledBy};
-ghost use Rattle.schedule.specs.Schedule.{schedule as scheduleOf};
+ghost use Rattle.schedule.specs.Schedule.{schedule as schedule_of};
 
 use file::Outcome;
 use links::LoadingRule;
@@ -16,7 +16,7 @@ use walk::BlockCount;
 // and no other schedule is lower anywhere or shorter.
 pub fn schedule_by(rule: LoadingRule, file: &[u8], buffer: &mut [u16]) -> BlockCount
     ensures buffer_after { record { answer = result; buffer = buffer.new } ≡ schedule_by rule file.now buffer.old }
-    ensures by_index { (k : ℕ) → result ≡ BlockCount.Blocks k → Meets rule file.now → ScheduledBy rule file.now k buffer.new }
+    ensures promise { (k : ℕ) → result ≡ BlockCount.Blocks k → Meets rule file.now → ScheduledBy rule file.now k buffer.new }
     ensures not_scheduled { (c : Refusal) → result ≡ BlockCount.Refused c → NotScheduledBy rule file.now buffer.old c buffer.new }
 {
     let loaded = insertion::load_by(rule, file);
@@ -29,8 +29,8 @@ pub fn schedule_by(rule: LoadingRule, file: &[u8], buffer: &mut [u16]) -> BlockC
 
 // In document 01's way: the promise is of files with at most one all-qubit pulse where there are pulses at both ends.
 pub fn schedule(file: &[u8], buffer: &mut [u16]) -> BlockCount
-    ensures buffer_after { record { answer = result; buffer = buffer.new } ≡ scheduleOf file.now buffer.old }
-    ensures by_index { (k : ℕ) → result ≡ BlockCount.Blocks k → Condition file.now → Scheduled file.now k buffer.new }
+    ensures buffer_after { record { answer = result; buffer = buffer.new } ≡ schedule_of file.now buffer.old }
+    ensures promise { (k : ℕ) → result ≡ BlockCount.Blocks k → Condition file.now → Scheduled file.now k buffer.new }
     ensures not_scheduled { (c : Refusal) → result ≡ BlockCount.Refused c → NotScheduled file.now buffer.old c buffer.new }
 {
     schedule_by(links::NEAR_ALL, file, buffer)
@@ -39,7 +39,7 @@ pub fn schedule(file: &[u8], buffer: &mut [u16]) -> BlockCount
 // In K6's way: the promise is of every file.
 pub fn schedule_both_ends(file: &[u8], buffer: &mut [u16]) -> BlockCount
     ensures buffer_after { record { answer = result; buffer = buffer.new } ≡ schedule_by FarAll file.now buffer.old }
-    ensures by_index { (k : ℕ) → result ≡ BlockCount.Blocks k → ScheduledBy FarAll file.now k buffer.new }
+    ensures promise { (k : ℕ) → result ≡ BlockCount.Blocks k → ScheduledBy FarAll file.now k buffer.new }
     ensures not_scheduled { (c : Refusal) → result ≡ BlockCount.Refused c → NotScheduledBy FarAll file.now buffer.old c buffer.new }
 {
     schedule_by(links::FAR_ALL, file, buffer)

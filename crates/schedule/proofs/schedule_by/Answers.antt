@@ -10,11 +10,11 @@ returns-in-Done c =
     let file = c.args.file.now in
     let bytes : ((i : ℕ) → get_or file i 0 < 256) = λ i. omega (arith, c.type_inv.file i) in
     let p = promised _ file bytes _ _ _ (c.whole_walk.ensures ∙ walks _ _ _ _ c.load_by-loaded.ensures c.in-Done.is) in
-    record { buffer_after = p.0; by_index = p.1.0; not_scheduled = p.1.1 }
+    record { buffer_after = p.0; promise = p.1.0; not_scheduled = p.1.1 }
 
 pub returns-in-Refused : goal.returns-in-Refused
 returns-in-Refused c =
     let file = c.args.file.now in
     let bytes : ((i : ℕ) → get_or file i 0 < 256) = λ i. omega (arith, c.type_inv.file i) in
     let p = promised _ file bytes _ _ _ (refuses _ _ _ _ c.load_by-loaded.ensures _ c.in-Refused.is) in
-    record { buffer_after = p.0; by_index = p.1.0; not_scheduled = p.1.1 }
+    record { buffer_after = p.0; promise = p.1.0; not_scheduled = p.1.1 }

@@ -18,10 +18,12 @@ pub loop-k-init : goal.loop-k-init
 loop-k-init c = (refl, begin _ _ c.if-size-lt2.false c.read_u16-n.ensures c.if-n-gt512.false c.if-size-n.false)
 
 pub returns-then-offset-end : goal.returns-then-offset-end
-returns-then-offset-end c = bad _ _ _ _ _ c.loop-k.invariant.1 _ c.loop-k-test.true c.read_u16-offset.ensures c.if-offset-end.true
+returns-then-offset-end c =
+    bad _ _ _ _ _ c.loop-k.invariant.1 _ c.loop-k-test.true c.read_u16-offset.ensures c.if-offset-end.true
 
 pub loop-k-preserved : goal.loop-k-preserved
-loop-k-preserved c = (refl, next _ _ _ _ _ c.loop-k.invariant.1 _ _ c.loop-k-test.true c.read_u16-offset.ensures c.if-offset-end.false c.read_u16.ensures)
+loop-k-preserved c =
+    (refl, next _ _ _ _ _ c.loop-k.invariant.1 _ _ c.loop-k-test.true c.read_u16-offset.ensures c.if-offset-end.false c.read_u16.ensures)
 
 pub returns-then-end-size : goal.returns-then-end-size
 returns-then-end-size c = whole _ _ _ _ _ c.loop-k.invariant.1 c.loop-k-test.false c.if-end-size.true

@@ -11,10 +11,13 @@ pub returns-then-size-n : goal.returns-then-size-n
 returns-then-size-n c = pair_short _ _ _ c.if-size-lt2.false c.read_u16-n.ensures c.if-n-gt512.false c.if-size-n.true
 
 pub returns-then-n-i : goal.returns-then-n-i
-returns-then-n-i c = pair_absent _ _ _ c.if-size-lt2.false c.read_u16-n.ensures c.if-n-gt512.false c.if-size-n.false c.if-n-i.true
+returns-then-n-i c =
+    pair_absent _ _ _ c.if-size-lt2.false c.read_u16-n.ensures c.if-n-gt512.false c.if-size-n.false c.if-n-i.true
 
 pub returns-then-size-offset : goal.returns-then-size-offset
-returns-then-size-offset c = pair_out _ _ _ c.if-size-lt2.false c.read_u16-n.ensures c.if-n-gt512.false c.if-size-n.false c.if-n-i.false _ _ c.read_u16-offset.ensures c.read_u16-length.ensures c.if-size-offset.true
+returns-then-size-offset c =
+    pair_out _ _ _ c.if-size-lt2.false c.read_u16-n.ensures c.if-n-gt512.false c.if-size-n.false c.if-n-i.false _ _ c.read_u16-offset.ensures c.read_u16-length.ensures c.if-size-offset.true
 
 pub returns : goal.returns
-returns c = pair_at _ _ _ c.if-size-lt2.false c.read_u16-n.ensures c.if-n-gt512.false c.if-size-n.false c.if-n-i.false _ _ c.read_u16-offset.ensures c.read_u16-length.ensures c.if-size-offset.false
+returns c =
+    pair_at _ _ _ c.if-size-lt2.false c.read_u16-n.ensures c.if-n-gt512.false c.if-size-n.false c.if-n-i.false _ _ c.read_u16-offset.ensures c.read_u16-length.ensures c.if-size-offset.false

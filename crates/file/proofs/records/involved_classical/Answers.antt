@@ -27,4 +27,6 @@ returns-in-3 c = rw (c.in-3.is, c.byte_at-in-3.ensures) refl
 
 pub returns-in_default : goal.returns-in_default
 unfolding classical_of
-returns-in_default c = let m = c.in_default.in_default-own.rest in rw (ne_eqb _ _ m.0.0.0.1, ne_eqb _ _ m.0.0.1, ne_eqb _ _ m.0.1, ne_eqb _ _ m.1, c.byte_at-in_default.ensures, c.field_at.ensures.0) refl
+returns-in_default c =
+    let m = c.in_default.in_default-own.rest in
+    rw (ne_eqb _ _ m.0.0.0.1, ne_eqb _ _ m.0.0.1, ne_eqb _ _ m.0.1, ne_eqb _ _ m.1, c.byte_at-in_default.ensures, c.field_at.ensures.0) refl

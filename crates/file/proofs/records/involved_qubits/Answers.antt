@@ -13,4 +13,5 @@ returns-in-1 c = rw c.in-1.is refl
 
 pub returns-in_default : goal.returns-in_default
 unfolding qubits_by
-returns-in_default c = rw (ne_eqb _ _ c.in_default.in_default-own.rest.0.1, ne_eqb _ _ c.in_default.in_default-own.rest.1) refl
+returns-in_default c =
+    rw (ne_eqb _ _ c.in_default.in_default-own.rest.0.1, ne_eqb _ _ c.in_default.in_default-own.rest.1) refl

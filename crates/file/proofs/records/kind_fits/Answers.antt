@@ -14,11 +14,15 @@ returns-in-5 c = rw c.in-5.is refl
 
 pub returns-then-register-eq4 : goal.returns-then-register-eq4
 unfolding definition_rule
-returns-then-register-eq4 c = let k = c.args.kind in simp (le-leb k 5 (omega arith), le-leb 1 k (omega arith), le-leb k 4 (omega arith), eq-eqb _ _ c.if-register-eq4.true)
+returns-then-register-eq4 c =
+    let k = c.args.kind in
+    simp (le-leb k 5 (omega arith), le-leb 1 k (omega arith), le-leb k 4 (omega arith), eq-eqb _ _ c.if-register-eq4.true)
 
 pub returns-else-register-eq4 : goal.returns-else-register-eq4
 unfolding definition_rule
-returns-else-register-eq4 c = let k = c.args.kind in simp (le-leb k 5 (omega arith), le-leb 1 k (omega arith), le-leb k 4 (omega arith), ne_eqb _ _ c.if-register-eq4.false)
+returns-else-register-eq4 c =
+    let k = c.args.kind in
+    simp (le-leb k 5 (omega arith), le-leb 1 k (omega arith), le-leb k 4 (omega arith), ne_eqb _ _ c.if-register-eq4.false)
 
 pub returns-in_default : goal.returns-in_default
 unfolding definition_rule

@@ -14,13 +14,16 @@ pub returns-then-end-gt1 : goal.returns-then-end-gt1
 returns-then-end-gt1 c = bad_end _ c.if-part-lt14.false c.if-end-gt1.true
 
 pub returns-then-not-kind_fits : goal.returns-then-not-kind_fits
-returns-then-not-kind_fits c = bad_kind _ c.if-part-lt14.false c.if-end-gt1.false (sym c.kind_fits.ensures ∙ c.if-not-kind_fits.true)
+returns-then-not-kind_fits c =
+    bad_kind _ c.if-part-lt14.false c.if-end-gt1.false (sym c.kind_fits.ensures ∙ c.if-not-kind_fits.true)
 
 pub returns-then-not-qubits_fit : goal.returns-then-not-qubits_fit
-returns-then-not-qubits_fit c = bad_qubits _ c.if-part-lt14.false c.if-end-gt1.false _ c.read_mask-mask.ensures (sym c.kind_fits.ensures ∙ c.if-not-kind_fits.false) (sym c.qubits_fit.ensures ∙ c.if-not-qubits_fit.true)
+returns-then-not-qubits_fit c =
+    bad_qubits _ c.if-part-lt14.false c.if-end-gt1.false _ c.read_mask-mask.ensures (sym c.kind_fits.ensures ∙ c.if-not-kind_fits.false) (sym c.qubits_fit.ensures ∙ c.if-not-qubits_fit.true)
 
 pub returns-then-not-tail_fits : goal.returns-then-not-tail_fits
-returns-then-not-tail_fits c = bad_tail _ c.if-part-lt14.false c.if-end-gt1.false _ c.read_mask-mask.ensures (sym c.kind_fits.ensures ∙ c.if-not-kind_fits.false) (sym c.qubits_fit.ensures ∙ c.if-not-qubits_fit.false) (sym c.tail_fits.ensures ∙ c.if-not-tail_fits.true)
+returns-then-not-tail_fits c =
+    bad_tail _ c.if-part-lt14.false c.if-end-gt1.false _ c.read_mask-mask.ensures (sym c.kind_fits.ensures ∙ c.if-not-kind_fits.false) (sym c.qubits_fit.ensures ∙ c.if-not-qubits_fit.false) (sym c.tail_fits.ensures ∙ c.if-not-tail_fits.true)
 
 pub returns-then-is_empty_set : goal.returns-then-is_empty_set
 returns-then-is_empty_set c =

@@ -25,4 +25,6 @@ returns-in-4 c = rw c.in-4.is refl
 
 pub returns-in_default : goal.returns-in_default
 unfolding tail_rule
-returns-in_default c = let m = c.in_default.in_default-own.rest in rw (ne_eqb _ _ m.0.0.0.0.1, ne_eqb _ _ m.0.0.0.1, ne_eqb _ _ m.0.0.1, ne_eqb _ _ m.0.1, ne_eqb _ _ m.1) refl
+returns-in_default c =
+    let m = c.in_default.in_default-own.rest in
+    rw (ne_eqb _ _ m.0.0.0.0.1, ne_eqb _ _ m.0.0.0.1, ne_eqb _ _ m.0.0.1, ne_eqb _ _ m.0.1, ne_eqb _ _ m.1) refl

@@ -19,19 +19,31 @@ pub returns-then-nodes-gt512 : goal.returns-then-nodes-gt512
 returns-then-nodes-gt512 c = let a = c.args in rw (lt-leb a.nodes 512 (omega arith)) refl
 
 pub returns-then-edges-gt2048 : goal.returns-then-edges-gt2048
-returns-then-edges-gt2048 c = let a = c.args in rw (le-leb a.nodes 512 (omega arith), lt-leb a.edges 2048 (omega arith)) refl
+returns-then-edges-gt2048 c =
+    let a = c.args in
+    rw (le-leb a.nodes 512 (omega arith), lt-leb a.edges 2048 (omega arith)) refl
 
 pub returns-then-first-gt256 : goal.returns-then-first-gt256
-returns-then-first-gt256 c = let a = c.args in rw (le-leb a.nodes 512 (omega arith), le-leb a.edges 2048 (omega arith), lt-leb a.first 256 (omega arith)) refl
+returns-then-first-gt256 c =
+    let a = c.args in
+    rw (le-leb a.nodes 512 (omega arith), le-leb a.edges 2048 (omega arith), lt-leb a.first 256 (omega arith)) refl
 
 pub returns-then-last-gt256 : goal.returns-then-last-gt256
-returns-then-last-gt256 c = let a = c.args in rw (le-leb a.nodes 512 (omega arith), le-leb a.edges 2048 (omega arith), le-leb a.first 256 (omega arith), lt-leb a.last 256 (omega arith)) refl
+returns-then-last-gt256 c =
+    let a = c.args in
+    rw (le-leb a.nodes 512 (omega arith), le-leb a.edges 2048 (omega arith), le-leb a.first 256 (omega arith), lt-leb a.last 256 (omega arith)) refl
 
 pub returns-then-commuting-gt512 : goal.returns-then-commuting-gt512
-returns-then-commuting-gt512 c = let a = c.args in rw (le-leb a.nodes 512 (omega arith), le-leb a.edges 2048 (omega arith), le-leb a.first 256 (omega arith), le-leb a.last 256 (omega arith), lt-leb a.commuting 512 (omega arith)) refl
+returns-then-commuting-gt512 c =
+    let a = c.args in
+    rw (le-leb a.nodes 512 (omega arith), le-leb a.edges 2048 (omega arith), le-leb a.first 256 (omega arith), le-leb a.last 256 (omega arith), lt-leb a.commuting 512 (omega arith)) refl
 
 pub returns-then-nodes-backs : goal.returns-then-nodes-backs
-returns-then-nodes-backs c = let a = c.args in rw (le-leb a.nodes 512 (omega arith), le-leb a.edges 2048 (omega arith), le-leb a.first 256 (omega arith), le-leb a.last 256 (omega arith), le-leb a.commuting 512 (omega arith), over a.nodes a.backs a.fronts (omega arith)) refl
+returns-then-nodes-backs c =
+    let a = c.args in
+    rw (le-leb a.nodes 512 (omega arith), le-leb a.edges 2048 (omega arith), le-leb a.first 256 (omega arith), le-leb a.last 256 (omega arith), le-leb a.commuting 512 (omega arith), over a.nodes a.backs a.fronts (omega arith)) refl
 
 pub returns : goal.returns
-returns c = let a = c.args in rw (le-leb a.nodes 512 (omega arith), le-leb a.edges 2048 (omega arith), le-leb a.first 256 (omega arith), le-leb a.last 256 (omega arith), le-leb a.commuting 512 (omega arith)) (parted a.nodes a.backs a.fronts (omega arith))
+returns c =
+    let a = c.args in
+    rw (le-leb a.nodes 512 (omega arith), le-leb a.edges 2048 (omega arith), le-leb a.first 256 (omega arith), le-leb a.last 256 (omega arith), le-leb a.commuting 512 (omega arith)) (parted a.nodes a.backs a.fronts (omega arith))

@@ -15,7 +15,8 @@ pub edge_fits-requires : goal.edge_fits-requires
 edge_fits-requires c = c.loop-i.invariant.passed.fit
 
 pub returns-then-not-edge_fits : goal.returns-then-not-edge_fits
-returns-then-not-edge_fits c = (edge_unfit c.loop-i.invariant.passed _ _ c.loop-i-test.true refl refl (sym c.edge_fits.ensures ∙ c.if-not-edge_fits.true), λ (h : false ≡ true). absurd (clash_bool refl (sym h)))
+returns-then-not-edge_fits c =
+    (edge_unfit c.loop-i.invariant.passed _ _ c.loop-i-test.true refl refl (sym c.edge_fits.ensures ∙ c.if-not-edge_fits.true), λ (h : false ≡ true). absurd (clash_bool refl (sym h)))
 
 pub overflow_mul-cell : goal.overflow_mul-cell
 overflow_mul-cell c =
@@ -107,4 +108,6 @@ loop-i-preserved c =
     rw c.with_bit.ensures (edge_more c.loop-i.invariant _ _ c.loop-i-test.true refl refl (tested) (sym c.has_bit.ensures ∙ c.if-has_bit.false))
 
 pub returns : goal.returns
-returns c = let I = c.loop-i.invariant.passed in (edges-done I c.loop-i-test.false, λ h. targets_done I c.loop-i-test.false)
+returns c =
+    let I = c.loop-i.invariant.passed in
+    (edges-done I c.loop-i-test.false, λ h. targets_done I c.loop-i-test.false)

@@ -14,7 +14,8 @@ pub edge_fits-requires : goal.edge_fits-requires
 edge_fits-requires c = c.loop-i.invariant.passed.fit
 
 pub returns-then-not-edge_fits : goal.returns-then-not-edge_fits
-returns-then-not-edge_fits c = (λ (h : false ≡ true). absurd (clash_bool refl (sym h)), λ (h : false ≡ true). absurd (clash_bool refl (sym h)))
+returns-then-not-edge_fits c =
+    (λ (h : false ≡ true). absurd (clash_bool refl (sym h)), λ (h : false ≡ true). absurd (clash_bool refl (sym h)))
 
 pub older_cell-cell-requires : goal.older_cell-cell-requires
 older_cell-cell-requires c =
@@ -52,7 +53,8 @@ bounds-stamps-cell c =
     omega (arith, older)
 
 pub returns-then-stamp-stamps : goal.returns-then-stamp-stamps
-returns-then-stamp-stamps c = (λ (h : false ≡ true). absurd (clash_bool refl (sym h)), λ (h : false ≡ true). absurd (clash_bool refl (sym h)))
+returns-then-stamp-stamps c =
+    (λ (h : false ≡ true). absurd (clash_bool refl (sym h)), λ (h : false ≡ true). absurd (clash_bool refl (sym h)))
 
 pub offset_bounds-stamps-cell-in-loop-i : goal.offset_bounds-stamps-cell-in-loop-i
 offset_bounds-stamps-cell-in-loop-i c =
@@ -88,4 +90,6 @@ loop-i-preserved c =
     stamps_more c.loop-i.invariant _ _ _ _ c.loop-i-test.true refl refl (tested) c.newer_end-newer.ensures c.older_cell-cell.ensures c.if-stamp-stamps.false
 
 pub returns : goal.returns
-returns c = let I = c.loop-i.invariant.passed in (λ h. sym (edges-done I c.loop-i-test.false), λ h. targets_done I c.loop-i-test.false)
+returns c =
+    let I = c.loop-i.invariant.passed in
+    (λ h. sym (edges-done I c.loop-i-test.false), λ h. targets_done I c.loop-i-test.false)

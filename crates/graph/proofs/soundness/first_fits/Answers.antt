@@ -5,7 +5,13 @@ use Rattle.graph.proofs.CheckLaws.{first_more, first_done}
 use Rattle.graph.proofs.soundness.first_fits.Goals as goal
 
 pub loop-v-init : goal.loop-v-init
-loop-v-init c = record { low = omega arith; long = c.requires; each = λ q u k. absurd (omega arith); found = λ q. absurd (clash_bool refl q) }
+loop-v-init c =
+    record {
+      low = omega arith;
+      long = c.requires;
+      each = λ q u k. absurd (omega arith);
+      found = λ q. absurd (clash_bool refl q);
+    }
 
 pub loop-v-preserved : goal.loop-v-preserved
 loop-v-preserved c = first_more c.loop-v.invariant c.loop-v-test.true _ c.starts_circuit-fit.ensures

@@ -4,10 +4,14 @@ use Rattle.insertion.proofs.LoadLaws.{bad_file, few, few_numbers, numbers-below,
 use Rattle.insertion.proofs.loading.load_by.Goals as goal
 
 pub slice_bounds-insert_in_order-end : goal.slice_bounds-insert_in_order-end
-slice_bounds-insert_in_order-end c = omega (arith, few _ _ _ c.file_order-order.ensures c.record_count-n.ensures (sym c.check_file-found.ensures ∙ c.in-Sound.is))
+slice_bounds-insert_in_order-end c =
+    omega (arith, few _ _ _ c.file_order-order.ensures c.record_count-n.ensures (sym c.check_file-found.ensures ∙ c.in-Sound.is))
 
 pub insert_in_order-requires : goal.insert_in_order-requires
-insert_in_order-requires c = let good = sym c.check_file-found.ensures ∙ c.in-Sound.is in let o = c.file_order-order.ensures in let n = c.record_count-n.ensures in
+insert_in_order-requires c =
+    let good = sym c.check_file-found.ensures ∙ c.in-Sound.is in
+    let o = c.file_order-order.ensures in
+    let n = c.record_count-n.ensures in
     (good, numbers-below _ _ _ o n good, few_numbers _ _ _ o n good)
 
 pub returns-in-Refused : goal.returns-in-Refused

@@ -10,7 +10,9 @@ pub join_block-requires : goal.join_block-requires
 join_block-requires c = c.requires.0
 
 pub no_qubits-requires : goal.no_qubits-requires
-no_qubits-requires c = let p = c.requires in record { near_top_bound = (p.2.low, p.2.nodes, p.2.top); far_top_bound = (p.3.low, p.3.nodes, p.3.top) }
+no_qubits-requires c =
+    let p = c.requires in
+    record { near_top_bound = (p.2.low, p.2.nodes, p.2.top); far_top_bound = (p.3.low, p.3.nodes, p.3.top) }
 
 pub set_node-requires : goal.set_node-requires
 set_node-requires c = omega arith

@@ -18,7 +18,8 @@ bounds-number-f c =
     from_low
 
 pub loop-j-preserved : goal.loop-j-preserved
-loop-j-preserved c = search_more _ _ _ _ _ _ c.loop-j.invariant c.loop-j-test.true _ _ c.to_index-f.ensures c.smaller_of-best.ensures
+loop-j-preserved c =
+    search_more _ _ _ _ _ _ c.loop-j.invariant c.loop-j-test.true _ _ c.to_index-f.ensures c.smaller_of-best.ensures
 
 pub returns : goal.returns
 returns c = search_done _ _ _ _ _ _ c.loop-j.invariant c.loop-j-test.false

@@ -10,12 +10,15 @@ use Rattle.queries.proofs.QueryLaws.{blocked_unsound, blocked_absent, blocked_an
 use Rattle.queries.proofs.queries.execution_blocked.Goals as goal
 
 pub returns-then-not-is_sound : goal.returns-then-not-is_sound
-returns-then-not-is_sound c = let a = c.args in blocked_unsound a.g a.executed.now a.v.0 a.buffer.now (sym c.is_sound.ensures ∙ c.if-not-is_sound.true)
+returns-then-not-is_sound c =
+    let a = c.args in
+    blocked_unsound a.g a.executed.now a.v.0 a.buffer.now (sym c.is_sound.ensures ∙ c.if-not-is_sound.true)
 
 pub returns-then-n-to_index : goal.returns-then-n-to_index
 returns-then-n-to_index c =
     let told : sound c.args.g ≡ true = sym c.is_sound.ensures ∙ c.if-not-is_sound.false in
-    let a = c.args in blocked_absent a.g a.executed.now a.v.0 a.buffer.now (told) (omega (arith, c.to_index.ensures, c.if-n-to_index.true))
+    let a = c.args in
+    blocked_absent a.g a.executed.now a.v.0 a.buffer.now (told) (omega (arith, c.to_index.ensures, c.if-n-to_index.true))
 
 pub ancestors-mark-requires : goal.ancestors-mark-requires
 ancestors-mark-requires c =

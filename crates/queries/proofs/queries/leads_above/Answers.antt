@@ -4,7 +4,13 @@ use Rattle.queries.proofs.MarkLaws.{halves_down}
 use Rattle.queries.proofs.queries.leads_above.Goals as goal
 
 pub loop-low-init : goal.loop-low-init
-loop-low-init c = record { count = c.requires.0; sorted = c.requires.1; between = omega arith; leads = record { within = omega arith; above = λ i a b. absurd (omega arith) } }
+loop-low-init c =
+    record {
+      count = c.requires.0;
+      sorted = c.requires.1;
+      between = omega arith;
+      leads = record { within = omega arith; above = λ i a b. absurd (omega arith) };
+    }
 
 pub overflow_add-mid : goal.overflow_add-mid
 overflow_add-mid c =
@@ -44,7 +50,8 @@ loop-low-smaller c =
 pub loop-low-preserved : goal.loop-low-preserved
 loop-low-preserved c =
     let halfway : c.loop-low.low + (c.loop-low.high - c.loop-low.low) / 2 < c.loop-low.high = omega (arith, c.loop-low-test.true) in
-    let I = c.loop-low.invariant in record { count = I.count; sorted = I.sorted; between = omega (arith, halfway); leads = I.leads }
+    let I = c.loop-low.invariant in
+    record { count = I.count; sorted = I.sorted; between = omega (arith, halfway); leads = I.leads }
 
 pub returns : goal.returns
 returns c = c.loop-low.invariant.leads

@@ -13,7 +13,7 @@ bounds-r-a c =
 
 pub bounds-skip-b : goal.bounds-skip-b
 bounds-skip-b c =
-    let far-low : c.to_index-b.result < 512 = omega (arith, c.loop-i.invariant.ends.far-below c.loop-i.i c.loop-i-test.true, c.to_index-b.ensures) in
+    let far-low : c.to_index-b.result < 512 = omega (arith, c.loop-i.invariant.ends.far_below c.loop-i.i c.loop-i-test.true, c.to_index-b.ensures) in
     far-low
 
 pub bounds-r-a-in-loop-i : goal.bounds-r-a-in-loop-i
@@ -22,7 +22,8 @@ bounds-r-a-in-loop-i c =
     near-low
 
 pub loop-i-preserved : goal.loop-i-preserved
-loop-i-preserved c = meets_one _ _ _ _ _ _ c.loop-i.invariant c.loop-i-test.true _ _ c.to_index-a.ensures c.to_index-b.ensures
+loop-i-preserved c =
+    meets_one _ _ _ _ _ _ c.loop-i.invariant c.loop-i-test.true _ _ c.to_index-a.ensures c.to_index-b.ensures
 
 pub returns : goal.returns
 returns c = meets_all _ _ _ _ _ _ c.loop-i.invariant c.loop-i-test.false

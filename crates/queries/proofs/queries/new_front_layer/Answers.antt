@@ -14,12 +14,15 @@ use Rattle.queries.proofs.QueryLaws.{layer_unsound, layer_absent, layer_without,
 use Rattle.queries.proofs.queries.new_front_layer.Goals as goal
 
 pub returns-then-not-is_sound : goal.returns-then-not-is_sound
-returns-then-not-is_sound c = let a = c.args in layer_unsound a.g a.executed.now a.v.0 a.buffer.now a.layer.now (sym c.is_sound.ensures ∙ c.if-not-is_sound.true)
+returns-then-not-is_sound c =
+    let a = c.args in
+    layer_unsound a.g a.executed.now a.v.0 a.buffer.now a.layer.now (sym c.is_sound.ensures ∙ c.if-not-is_sound.true)
 
 pub returns-then-n-to_index : goal.returns-then-n-to_index
 returns-then-n-to_index c =
     let told : sound c.args.g ≡ true = sym c.is_sound.ensures ∙ c.if-not-is_sound.false in
-    let a = c.args in layer_absent a.g a.executed.now a.v.0 a.buffer.now a.layer.now (told) (omega (arith, c.to_index.ensures, c.if-n-to_index.true))
+    let a = c.args in
+    layer_absent a.g a.executed.now a.v.0 a.buffer.now a.layer.now (told) (omega (arith, c.to_index.ensures, c.if-n-to_index.true))
 
 pub returns-then-layer-i : goal.returns-then-layer-i
 returns-then-layer-i c =

@@ -14,7 +14,7 @@ bounds-mark-a c =
 
 pub bounds-mark-b : goal.bounds-mark-b
 bounds-mark-b c =
-    let far-low : c.to_index-b.result < 512 = omega (arith, c.loop-i.invariant.ends.far-below (c.loop-i.i - 1) (omega (arith, c.loop-i-test.true, c.loop-i.invariant.low)), c.to_index-b.ensures) in
+    let far-low : c.to_index-b.result < 512 = omega (arith, c.loop-i.invariant.ends.far_below (c.loop-i.i - 1) (omega (arith, c.loop-i-test.true, c.loop-i.invariant.low)), c.to_index-b.ensures) in
     far-low
 
 pub bounds-mark-a-in-loop-i : goal.bounds-mark-a-in-loop-i
@@ -23,7 +23,10 @@ bounds-mark-a-in-loop-i c =
     near-low
 
 pub loop-i-preserved : goal.loop-i-preserved
-loop-i-preserved c = settles_one _ _ _ _ _ _ c.loop-i.invariant c.loop-i-test.true _ _ c.to_index-a.ensures c.to_index-b.ensures
+loop-i-preserved c =
+    settles_one _ _ _ _ _ _ c.loop-i.invariant c.loop-i-test.true _ _ c.to_index-a.ensures c.to_index-b.ensures
 
 pub returns : goal.returns
-returns c = let z : c.loop-i.i ≡ 0 = omega (arith, c.loop-i-test.false) in settles_all _ _ _ _ _ (rw z at c.loop-i.invariant)
+returns c =
+    let z : c.loop-i.i ≡ 0 = omega (arith, c.loop-i-test.false) in
+    settles_all _ _ _ _ _ (rw z at c.loop-i.invariant)

@@ -12,7 +12,9 @@ pub sweep-moved-requires : goal.sweep-moved-requires
 sweep-moved-requires c = (c.loop-moved.invariant.ends, c.loop-moved.invariant.long)
 
 pub loop-moved-smaller : goal.loop-moved-smaller
-loop-moved-smaller c = let z : ◌≡◌ {A = ℕ} (cond c.loop-moved.moved 1 0) 1 = ap (λ (b : Bool). cond b 1 0) c.loop-moved-test.true in omega (arith, c.sweep-moved.ensures.fewer)
+loop-moved-smaller c =
+    let z : ◌≡◌ {A = ℕ} (cond c.loop-moved.moved 1 0) 1 = ap (λ (b : Bool). cond b 1 0) c.loop-moved-test.true in
+    omega (arith, c.sweep-moved.ensures.fewer)
 
 pub loop-moved-preserved : goal.loop-moved-preserved
 loop-moved-preserved c = spreads_on _ _ _ _ _ _ _ _ c.loop-moved.invariant c.sweep-moved.ensures

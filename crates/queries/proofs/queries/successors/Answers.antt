@@ -11,12 +11,15 @@ use Rattle.queries.specs.Marks.{no_node}
 use Rattle.queries.proofs.queries.successors.Goals as goal
 
 pub returns-then-not-is_sound : goal.returns-then-not-is_sound
-returns-then-not-is_sound c = let a = c.args in successors_unsound a.g a.v.0 a.buffer.now (sym c.is_sound.ensures ∙ c.if-not-is_sound.true)
+returns-then-not-is_sound c =
+    let a = c.args in
+    successors_unsound a.g a.v.0 a.buffer.now (sym c.is_sound.ensures ∙ c.if-not-is_sound.true)
 
 pub returns-then-n-to_index : goal.returns-then-n-to_index
 returns-then-n-to_index c =
     let told : sound c.args.g ≡ true = sym c.is_sound.ensures ∙ c.if-not-is_sound.false in
-    let a = c.args in successors-absent a.g a.v.0 a.buffer.now (told) (omega (arith, c.to_index.ensures, c.if-n-to_index.true))
+    let a = c.args in
+    successors-absent a.g a.v.0 a.buffer.now (told) (omega (arith, c.to_index.ensures, c.if-n-to_index.true))
 
 pub neighbours_of-mark-requires : goal.neighbours_of-mark-requires
 neighbours_of-mark-requires c =

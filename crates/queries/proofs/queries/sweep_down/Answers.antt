@@ -15,7 +15,7 @@ bounds-mark-a c =
 
 pub bounds-mark-b : goal.bounds-mark-b
 bounds-mark-b c =
-    let far-low : c.to_index-b.result < 512 = omega (arith, c.loop-i.invariant.ends.far-below (c.loop-i.i - 1) (omega (arith, c.loop-i-test.true, c.loop-i.invariant.top)), c.to_index-b.ensures) in
+    let far-low : c.to_index-b.result < 512 = omega (arith, c.loop-i.invariant.ends.far_below (c.loop-i.i - 1) (omega (arith, c.loop-i-test.true, c.loop-i.invariant.top)), c.to_index-b.ensures) in
     far-low
 
 pub bounds-mark-a-in-loop-i : goal.bounds-mark-a-in-loop-i
@@ -24,7 +24,8 @@ bounds-mark-a-in-loop-i c =
     near-low
 
 pub loop-i-preserved : goal.loop-i-preserved
-loop-i-preserved c = sweeps_one _ _ _ _ _ _ _ _ c.loop-i.invariant (c.loop-i.i - 1) _ _ (omega (arith, c.loop-i.invariant.low, c.loop-i-test.true)) (omega arith) (omega (arith, c.loop-i.invariant.low))
+loop-i-preserved c =
+    sweeps_one _ _ _ _ _ _ _ _ c.loop-i.invariant (c.loop-i.i - 1) _ _ (omega (arith, c.loop-i.invariant.low, c.loop-i-test.true)) (omega arith) (omega (arith, c.loop-i.invariant.low))
     (λ j x y. from-below j c.loop-i.i _ c.loop-i-test.true x y) _ _ c.to_index-a.ensures c.to_index-b.ensures
 
 pub returns : goal.returns

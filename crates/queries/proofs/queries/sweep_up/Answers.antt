@@ -16,7 +16,7 @@ bounds-mark-a c =
 
 pub bounds-mark-b : goal.bounds-mark-b
 bounds-mark-b c =
-    let far-low : c.to_index-b.result < 512 = omega (arith, c.loop-i.invariant.ends.far-below c.loop-i.i c.loop-i-test.true, c.to_index-b.ensures) in
+    let far-low : c.to_index-b.result < 512 = omega (arith, c.loop-i.invariant.ends.far_below c.loop-i.i c.loop-i-test.true, c.to_index-b.ensures) in
     far-low
 
 pub bounds-mark-a-in-loop-i : goal.bounds-mark-a-in-loop-i
@@ -25,7 +25,8 @@ bounds-mark-a-in-loop-i c =
     near-low
 
 pub loop-i-preserved : goal.loop-i-preserved
-loop-i-preserved c = sweeps_one _ _ _ _ _ _ _ _ c.loop-i.invariant c.loop-i.i 0 _ c.loop-i-test.true (omega arith) (omega arith)
+loop-i-preserved c =
+    sweeps_one _ _ _ _ _ _ _ _ c.loop-i.invariant c.loop-i.i 0 _ c.loop-i-test.true (omega arith) (omega arith)
     (λ j x y. ⊎_elim (λ e. inl e) (λ e. inr (omega arith, e)) (split_lt j c.loop-i.i y)) _ _ c.to_index-a.ensures c.to_index-b.ensures
 
 pub returns : goal.returns

@@ -7,13 +7,16 @@ pub loop-u-init : goal.loop-u-init
 loop-u-init c = writes-none _ _ _ _ _ c.requires.0 c.requires.1
 
 pub offset_bounds-buffer-k : goal.offset_bounds-buffer-k
-offset_bounds-buffer-k c = omega (arith, writes_room _ _ _ _ _ _ _ _ c.loop-u.invariant c.loop-u-test.true _ c.is_kept.ensures c.if-is_kept.true, writes_long _ _ _ _ _ _ _ _ c.loop-u.invariant, c.slice_known-1.given 0)
+offset_bounds-buffer-k c =
+    omega (arith, writes_room _ _ _ _ _ _ _ _ c.loop-u.invariant c.loop-u-test.true _ c.is_kept.ensures c.if-is_kept.true, writes_long _ _ _ _ _ _ _ _ c.loop-u.invariant, c.slice_known-1.given 0)
 
 pub bounds-buffer-k : goal.bounds-buffer-k
-bounds-buffer-k c = writes_room _ _ _ _ _ _ _ _ c.loop-u.invariant c.loop-u-test.true _ c.is_kept.ensures c.if-is_kept.true
+bounds-buffer-k c =
+    writes_room _ _ _ _ _ _ _ _ c.loop-u.invariant c.loop-u-test.true _ c.is_kept.ensures c.if-is_kept.true
 
 pub overflow_add-k : goal.overflow_add-k
-overflow_add-k c = omega (arith, writes_room _ _ _ _ _ _ _ _ c.loop-u.invariant c.loop-u-test.true _ c.is_kept.ensures c.if-is_kept.true, writes_long _ _ _ _ _ _ _ _ c.loop-u.invariant)
+overflow_add-k c =
+    omega (arith, writes_room _ _ _ _ _ _ _ _ c.loop-u.invariant c.loop-u-test.true _ c.is_kept.ensures c.if-is_kept.true, writes_long _ _ _ _ _ _ _ _ c.loop-u.invariant)
 
 pub loop-u-preserved : goal.loop-u-preserved
 loop-u-preserved c = elim c.if-is_kept.branch [

@@ -1,9 +1,6 @@
 use Rattle.registers.proofs.RegisterLaws.{join_each, joins_set}
 use Rattle.registers.proofs.entries.enter_maps.Goals as goal
 
-pub enum_known-classical : goal.enum_known-classical
-enum_known-classical c = c.in-Set.in-Set-own.keys1
-
 pub set_keys-requires : goal.set_keys-requires
 set_keys-requires c = c.requires
 

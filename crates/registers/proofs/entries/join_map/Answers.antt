@@ -1,15 +1,6 @@
 use Rattle.registers.proofs.RegisterLaws.{map_same, map_near, map-far, map_defined}
 use Rattle.registers.proofs.entries.join_map.Goals as goal
 
-pub enum_known-classical : goal.enum_known-classical
-enum_known-classical c = c.in-All.in-All-own.keys2
-
-pub enum_known-classical-in-AllQubits-1 : goal.enum_known-classical-in-AllQubits-1
-enum_known-classical-in-AllQubits-1 c = c.in-All.in-All-own.keys3
-
-pub enum_known-classical-in-Definition-1 : goal.enum_known-classical-in-Definition-1
-enum_known-classical-in-Definition-1 c = c.in-Definition.in-Definition-own.keys4
-
 pub define_keys-requires : goal.define_keys-requires
 define_keys-requires c = c.requires
 
@@ -20,10 +11,16 @@ pub returns-in-None : goal.returns-in-None
 returns-in-None c = let a = c.args in map_same a.classical a.near a.v.0 _ c.in-None.in-None-own.keys1 c.requires
 
 pub returns-in-Definition : goal.returns-in-Definition
-returns-in-Definition c = let a = c.args in map_defined a.classical a.near a.v.0 _ _ _ _ c.in-Definition.is c.define_keys.ensures
+returns-in-Definition c =
+    let a = c.args in
+    map_defined a.classical a.near a.v.0 _ _ _ _ c.in-Definition.is c.define_keys.ensures
 
 pub returns-then-near : goal.returns-then-near
-returns-then-near c = let a = c.args in map_near a.classical a.near a.v.0 _ c.in-All.n c.in-All.is _ c.if-near.true c.keep_name.ensures
+returns-then-near c =
+    let a = c.args in
+    map_near a.classical a.near a.v.0 _ c.in-All.n c.in-All.is _ c.if-near.true c.keep_name.ensures
 
 pub returns-else-near : goal.returns-else-near
-returns-else-near c = let a = c.args in map-far a.classical a.near a.v.0 _ c.in-All.n c.in-All.is c.if-near.false c.requires
+returns-else-near c =
+    let a = c.args in
+    map-far a.classical a.near a.v.0 _ c.in-All.n c.in-All.is c.if-near.false c.requires

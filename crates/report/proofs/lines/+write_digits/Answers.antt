@@ -33,7 +33,8 @@ bounds-out-next t c =
     omega (arith, room, c.write_digits-next.ensures.value, c.write_digits-next.auto.out)
 
 pub shape_of-out : goal.shape_of-out
-shape_of-out t c = length-set c.write_digits-next.new.out c.write_digits-next.result c.digit-2.result ∙ c.write_digits-next.auto.out
+shape_of-out t c =
+    length-set c.write_digits-next.new.out c.write_digits-next.result c.digit-2.result ∙ c.write_digits-next.auto.out
 
 pub returns : goal.returns
 returns t c =

@@ -19,4 +19,8 @@ returns c =
     let head = c.write_count-at in
     let lines = c.write_lines in
     let r = numbers_text_lem _ _ _ _ _ _ _ _ head.ensures.value head.ensures.out_after lines.ensures.value lines.ensures.out_after in
-    record { value = r.0; upper_bound = omega (arith, lines.ensures.upper_bound, head.auto.out, c.requires.out_len); out_after = r.1 }
+    record {
+      value = r.0;
+      upper_bound = omega (arith, lines.ensures.upper_bound, head.auto.out, c.requires.out_len);
+      out_after = r.1;
+    }

@@ -12,4 +12,8 @@ pub shape_of-out : goal.shape_of-out
 shape_of-out c = c.loop-i.invariant.long
 
 pub returns : goal.returns
-returns c = record { value = omega (arith, c.loop-i.invariant.low, c.loop-i-test.false); out_after = copies_all _ _ _ _ _ c.loop-i.invariant c.loop-i-test.false }
+returns c =
+    record {
+      value = omega (arith, c.loop-i.invariant.low, c.loop-i-test.false);
+      out_after = copies_all _ _ _ _ _ c.loop-i.invariant c.loop-i-test.false;
+    }

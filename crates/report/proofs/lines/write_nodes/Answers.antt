@@ -15,7 +15,12 @@ pub overflow_cast-v : goal.overflow_cast-v
 overflow_cast-v c = omega (arith, c.loop-v-test.true, c.requires.n_bound)
 
 pub write_node-place-requires : goal.write_node-place-requires
-write_node-place-requires c = record { v_bound = omega (arith, c.loop-v-test.true, c.requires.n_bound); v_in_bounds = lists_room _ _ _ _ _ c.requires.n_in_bounds _ _ _ c.loop-v.invariant c.loop-v-test.true; out_len_bound = omega (arith, c.loop-v.invariant.long, c.requires.out_len_bound) }
+write_node-place-requires c =
+    record {
+      v_bound = omega (arith, c.loop-v-test.true, c.requires.n_bound);
+      v_in_bounds = lists_room _ _ _ _ _ c.requires.n_in_bounds _ _ _ c.loop-v.invariant c.loop-v-test.true;
+      out_len_bound = omega (arith, c.loop-v.invariant.long, c.requires.out_len_bound);
+    }
 
 pub overflow_add-v : goal.overflow_add-v
 overflow_add-v c = record { fits = omega (arith, c.loop-v-test.true, c.requires.n_bound) }
@@ -24,10 +29,15 @@ pub loop-v-smaller : goal.loop-v-smaller
 loop-v-smaller c = omega (arith, c.loop-v-test.true)
 
 pub loop-v-preserved : goal.loop-v-preserved
-loop-v-preserved c = lists_one _ _ _ _ _ c.requires.n_in_bounds c.requires.n_bound _ _ _ _ _ c.loop-v.invariant c.loop-v-test.true c.write_node-place.ensures.value c.write_node-place.ensures.out_after
+loop-v-preserved c =
+    lists_one _ _ _ _ _ c.requires.n_in_bounds c.requires.n_bound _ _ _ _ _ c.loop-v.invariant c.loop-v-test.true c.write_node-place.ensures.value c.write_node-place.ensures.out_after
 
 pub shape_of-out : goal.shape_of-out
 shape_of-out c = c.loop-v.invariant.long
 
 pub returns : goal.returns
-returns c = record { value = lists_end _ _ _ _ _ _ _ _ c.loop-v.invariant c.loop-v-test.false; out_after = lists_all _ _ _ _ _ _ _ _ c.loop-v.invariant c.loop-v-test.false }
+returns c =
+    record {
+      value = lists_end _ _ _ _ _ _ _ _ c.loop-v.invariant c.loop-v-test.false;
+      out_after = lists_all _ _ _ _ _ _ _ _ c.loop-v.invariant c.loop-v-test.false;
+    }

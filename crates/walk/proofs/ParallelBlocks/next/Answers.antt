@@ -9,7 +9,8 @@ use Rattle.walk.proofs.NextLaws.{none-test, next_unsound, next-absent, next-none
 use Rattle.walk.proofs.ParallelBlocks.next.Goals as goal
 
 pub returns-then-not-is_sound : goal.returns-then-not-is_sound
-returns-then-not-is_sound c = rw c.refuse_step.ensures (next_unsound _ _ _ (sym c.is_sound.ensures ∙ c.if-not-is_sound.true))
+returns-then-not-is_sound c =
+    rw c.refuse_step.ensures (next_unsound _ _ _ (sym c.is_sound.ensures ∙ c.if-not-is_sound.true))
 
 pub returns-then-not-members_below : goal.returns-then-not-members_below
 returns-then-not-members_below c =

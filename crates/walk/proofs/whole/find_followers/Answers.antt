@@ -20,4 +20,5 @@ take_waiting-requires c =
     (fits, c.targets_of-found.ensures.long)
 
 pub returns : goal.returns
-returns c = (c.take_waiting.ensures.long, followers-found c.args.g c.requires _ _ _ c.first_numbers-num.ensures c.settle.ensures _ _ _ c.targets_of-found.ensures c.take_waiting.ensures)
+returns c =
+    (c.take_waiting.ensures.long, followers-found c.args.g c.requires _ _ _ c.first_numbers-num.ensures c.settle.ensures _ _ _ c.targets_of-found.ensures c.take_waiting.ensures)

@@ -14,4 +14,5 @@ settle-requires c =
     (fits, c.number_targets.ensures.long)
 
 pub returns : goal.returns
-returns c = numbers-found c.args.g c.requires _ _ c.first_numbers-num.ensures c.number_targets.ensures _ c.settle.ensures
+returns c =
+    numbers-found c.args.g c.requires _ _ c.first_numbers-num.ensures c.number_targets.ensures _ c.settle.ensures

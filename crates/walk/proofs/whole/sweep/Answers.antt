@@ -63,7 +63,8 @@ bounds-num-t-in-loop-i c =
     low-to
 
 pub loop-i-preserved : goal.loop-i-preserved
-loop-i-preserved c = sweep_more _ _ _ _ _ c.loop-i.invariant c.loop-i-test.true _ c.edge_in_turn-j.ensures _ _ _ _ c.to_index-f.ensures c.to_index-t.ensures c.raised-new.ensures c.has_changed-changed.ensures
+loop-i-preserved c =
+    sweep_more _ _ _ _ _ c.loop-i.invariant c.loop-i-test.true _ c.edge_in_turn-j.ensures _ _ _ _ c.to_index-f.ensures c.to_index-t.ensures c.raised-new.ensures c.has_changed-changed.ensures
 
 pub returns : goal.returns
 returns c = sweep_done _ _ _ _ _ c.loop-i.invariant c.loop-i-test.false

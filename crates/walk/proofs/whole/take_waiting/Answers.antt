@@ -27,7 +27,8 @@ bounds-found-t-in-loop-i c =
     low-to
 
 pub loop-i-preserved : goal.loop-i-preserved
-loop-i-preserved c = taking_more _ _ _ _ _ c.loop-i.invariant c.loop-i-test.true _ _ _ c.to_index-f.ensures c.to_index-t.ensures c.is_free.ensures
+loop-i-preserved c =
+    taking_more _ _ _ _ _ c.loop-i.invariant c.loop-i-test.true _ _ _ c.to_index-f.ensures c.to_index-t.ensures c.is_free.ensures
 
 pub returns : goal.returns
 returns c = taking_done _ _ _ _ _ c.loop-i.invariant c.loop-i-test.false

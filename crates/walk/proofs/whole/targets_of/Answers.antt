@@ -21,7 +21,8 @@ bounds-found-t-in-loop-i c =
     low-to
 
 pub loop-i-preserved : goal.loop-i-preserved
-loop-i-preserved c = marking_more _ _ _ _ c.loop-i.invariant c.loop-i-test.true _ _ _ c.to_index-f.ensures c.to_index-t.ensures c.is_either.ensures
+loop-i-preserved c =
+    marking_more _ _ _ _ c.loop-i.invariant c.loop-i-test.true _ _ _ c.to_index-f.ensures c.to_index-t.ensures c.is_either.ensures
 
 pub returns : goal.returns
 returns c = marking_done _ _ _ _ c.loop-i.invariant c.loop-i-test.false
