@@ -19,11 +19,23 @@ STD_NAMES = {
 }
 # Names that would fall together with another of the same file or of one that imports both, and get this one.
 ELSE = {"bothEnds": "at_both_ends", "first-all": "first_all_lem", "last-all": "last_all_lem"}
+# Parameters, helpers of a proof, fields that read as two definitions, and the second names that clauses import under: none of them is the
+# head of a definition, so that the rules above pass them by. Added after the first run.
+LATER = {
+    name: re.sub(r"(?<=[a-z0-9])([A-Z])", lambda m: "_" + m.group(1).lower(), name).replace("-", "_")
+    for name in (
+        "farBlock farNode nearNode nearBlock nearNode' farNode' nearBlock' farBlock' firstNode lastNode firstBlock lastBlock sourceIn farIn"
+        " leastFrom builtBy emptyNet differentIn inItsBlock chainRule getRule scheduleOf successorsRule"
+        " far-below far-count far-map from-size to-size map-near near-any near-below near-block near-blocks near-count near-entry near-free"
+        " near-grown near-map near-member near-name near-named near-registers put-near"
+    ).split()
+}
 # .. in these files alone: the toolchain's own respelling had made lemmas of them that have a definition's new name.
 IN_FILES = {
     "crates/graph/proofs/AnswerLaws.antt": {"counts_of": "counts_of_lem", "edge_test": "edge_test_lem"},
     "crates/graph/proofs/soundness/is_sound/Proof.antt": {"counts_of": "counts_of_lem"},
     "crates/insertion/proofs/BuiltLoads.antt": {"goes_on": "goes_on_lem"},
+    "crates/links/proofs/JoinLaws.antt": {"near-block": "near_put", "far-block": "far_put"},
     "crates/queries/proofs/PlaceOrder.antt": {"place_at": "place_at_lem"},
     "crates/queries/proofs/ConversionLaws.antt": {"place_at": "place_at_lem"},
     "crates/guarantee/proofs/RecordTakes.antt": {"takes_all": "takes_all_lem"},
@@ -50,6 +62,13 @@ def respelled(name, definitions):
         typed = before[:1].isupper() or part[:1].isupper()
         out += ("-" if names or typed else "_") + part
     return out
+
+
+def quoted(m):
+    """Whether a name stands in a comment between quotation marks, as a word of the documents. Added after the first run."""
+    line = m.string[m.string.rfind("\n", 0, m.start()) + 1 : m.start()]
+    comment = re.search(r"(?:^|\s)(?:--|//) (.*)$", line)
+    return bool(comment) and comment.group(1).count('"') % 2 == 1
 
 
 def main(show):
@@ -113,6 +132,8 @@ def main(show):
             bad += 1
         elif new in used and not (new in heads):
             print(f"look: {old} becomes {new}, which stands as a word already")
+    table.update(LATER)
+    word = re.compile(r"(?<!%s)(%s)(?!%s)" % (PART, "|".join(re.escape(n) for n in sorted(table, key=len, reverse=True)), PART))
     if show or bad:
         for old, new in sorted(table.items()):
             print(f"{old}\t{new}")
@@ -125,7 +146,8 @@ def main(show):
         # In a function's own proof a name behind a dot is a step of the code.
         step = re.search(r"/proofs/.*/Proof\.antt$", f)
         new = word.sub(
-            lambda m: table[m.group(1)].removesuffix("_lem" if step and m.string[m.start() - 1] == "." else ""), text
+            lambda m: m.group(0) if quoted(m) else table[m.group(1)].removesuffix("_lem" if step and m.string[m.start() - 1] == "." else ""),
+            text,
         )
         if new != text:
             with open(f, "w", encoding="utf-8") as out:
