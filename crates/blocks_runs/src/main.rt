@@ -2,7 +2,7 @@
 // file follows a line with its length.
 #![tactic(auto)]
 
-use std::io::{self, Read};
+use std::io;
 
 // The text for one file, behind a line with its length.
 fn print_file(rt: &impl Print, file: &[u8]) -> io::Result<()> {
@@ -19,9 +19,8 @@ fn pair(low: u8, high: u8) -> usize {
 }
 
 fn main(rt: HostRuntime) -> io::Result<()> {
-    let mut input = Vec::new(rt.alloc());
-    rt.reader().take(65536).read_to_end(&mut input)?;
-    let n = input.len();
+    let mut input = [0; 65536];
+    let n = standard_io::read_file(&rt, &mut input);
     let mut at: usize = 0;
     while at + 2 <= n {
         let start = at + 2;

@@ -7,7 +7,7 @@
 use file::{Outcome, Refusal, RefusalValue};
 use graph::{CircuitDag, NodeIndex};
 use queries::Query;
-use std::io::{self, Read};
+use std::io;
 use walk::BlockCount;
 
 fn print(rt: &impl Print, text: &[u8]) -> io::Result<()> {
@@ -228,9 +228,8 @@ fn pair(low: u8, high: u8) -> usize {
 }
 
 fn main(rt: HostRuntime) -> io::Result<()> {
-    let mut input = Vec::new(rt.alloc());
-    rt.reader().take(65536).read_to_end(&mut input)?;
-    let n = input.len();
+    let mut input = [0; 65536];
+    let n = standard_io::read_file(&rt, &mut input);
     let mut at: usize = 0;
     while at + 2 <= n {
         let start = at + 2;

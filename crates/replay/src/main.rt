@@ -8,7 +8,7 @@ use file::{Outcome, Refusal, RefusalValue};
 use graph::{CircuitDag, Commuting, End, NodeIndex, Registers};
 use insertion::Loaded;
 use queries::Query;
-use std::io::{self, Read};
+use std::io;
 use walk::{BlockCount, NextBlock, ParallelBlocks};
 
 // A byte of the input, 0 past its end.
@@ -429,7 +429,7 @@ fn replay_all(rt: &impl Print, input: &[u8]) -> io::Result<()> {
 }
 
 fn main(rt: HostRuntime) -> io::Result<()> {
-    let mut input = Vec::new(rt.alloc());
-    rt.reader().take(65536).read_to_end(&mut input)?;
-    replay_all(&rt, &input)
+    let mut input = [0; 65536];
+    let n = standard_io::read_file(&rt, &mut input);
+    replay_all(&rt, &input[..n])
 }

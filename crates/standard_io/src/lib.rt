@@ -1,4 +1,4 @@
-// The programs `blocks` and `blocks_both_ends` as one function, so that every program that is run on an input runs this one.
+// Standard input, and the programs `blocks` and `blocks_both_ends` as one function, so that every program that is run on an input runs this one.
 #![tactic(auto)]
 
 ghost use Rattle.std.specs.Prelude.{◌≤◌};
@@ -9,7 +9,7 @@ use report::Text;
 use std::io::Read;
 
 // Standard input's first 65,536 bytes, or all where they are fewer; how many there are. A read that fails ends the input.
-fn read_file(rt: &impl Input, file: &mut [u8; 65536]) -> usize
+pub fn read_file(rt: &impl Input, file: &mut [u8; 65536]) -> usize
     ensures { result ≤ 65536 }
 {
     let mut input = rt.reader();
