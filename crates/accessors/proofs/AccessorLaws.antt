@@ -6,12 +6,13 @@ use Prim.Native.Nat.{ℕ, suc, ◌+◌, ◌-◌, ◌≤◌, ◌<◌}
 use native.Mathlib.Omega.{arith}
 use lib.Dec.{eqb}
 use lib.ListN.{get_or}
+use borrow.Author.Tests.{eq-eqb, ne_eqb}
 use Rattle.file.specs.Lists.{count_from}
 use Rattle.file.specs.declared.RegisterKey.{RegisterKey}
 use Rattle.graph.specs.declared.Registers.{Registers}
 use Rattle.graph.specs.Dag.{Entry, node, entry_at, entries_of}
-use Rattle.accessors.specs.declared.Operation.TheVariants.{Node, None}
 use Rattle.accessors.specs.Accessors.{node_of_key}
+use Rattle.std.specs.Prelude.{Some, None}
 
 module _ (r : Registers) (k : RegisterKey) where
   -- the entries from i on
@@ -31,13 +32,23 @@ module _ (r : Registers) (k : RegisterKey) where
   unfolding node_of_key count_from
   not_there i S h = let z : r.count - i ≡ 0 = omega arith in rw z at S.same
 
-  module _ (i : ℕ) (S : Searching i) (h : i < r.count) (b : Bool) (e : b ≡ (eqb (get_or r.name i 0) k.name && eqb (get_or r.index i 0) k.index)) where
-    turn : node_of_key k (left i) ≡ cond b (Node (node (get_or r.node i 0))) (node_of_key k (left (i + 1)))
+  module _ (i : ℕ) (S : Searching i) (h : i < r.count) where
+    -- whether entry i has the key
+    abbrev here : Bool
+    here = eqb (get_or r.name i 0) k.name && eqb (get_or r.index i 0) k.index
+
+    turn : (b : Bool) → here ≡ b → node_of_key k (left i) ≡ cond b (Some (node (get_or r.node i 0))) (node_of_key k (left (i + 1)))
     unfolding node_of_key count_from
-    turn = let z : r.count - i ≡ suc (r.count - (i + 1)) = omega arith in rw (z, e) refl
+    turn b e = let z : r.count - i ≡ suc (r.count - (i + 1)) = omega arith in rw (z, e) refl
 
-    pub key_here : b ≡ true → Node (node (get_or r.node i 0)) ≡ node_of_key k (entries_of r)
-    key_here t = sym (turn ∙ rw t refl) ∙ S.same
+    pub key_here : get_or r.name i 0 ≡ k.name → get_or r.index i 0 ≡ k.index → Some (node (get_or r.node i 0)) ≡ node_of_key k (entries_of r)
+    key_here x y = sym (turn true (rw (eq-eqb _ _ x, eq-eqb _ _ y) refl)) ∙ S.same
 
-    pub not_here : b ≡ false → Searching (i + 1)
-    not_here t = record { few = S.few; low = omega arith; same = sym (turn ∙ rw t refl) ∙ S.same }
+    next : here ≡ false → Searching (i + 1)
+    next t = record { few = S.few; low = omega arith; same = sym (turn false t) ∙ S.same }
+
+    pub other_name : (get_or r.name i 0 ≡ k.name → ⊥) → Searching (i + 1)
+    other_name x = next (rw (ne_eqb _ _ x) refl)
+
+    pub other_index : get_or r.name i 0 ≡ k.name → (get_or r.index i 0 ≡ k.index → ⊥) → Searching (i + 1)
+    other_index x y = next (rw (eq-eqb _ _ x, ne_eqb _ _ y) refl)

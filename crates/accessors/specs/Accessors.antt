@@ -1,5 +1,5 @@
 -- The source's remaining accessors as queries: "queries 11, 8, .. 10". Assumes nothing.
-use Rattle.std.specs.Prelude.{cond, List, [], ◌∷◌, ℕ, ltb}
+use Rattle.std.specs.Prelude.{cond, List, [], ◌∷◌, ℕ, ltb, Result, Option, Ok, Err, Some, None}
 use Rattle.file.specs.Lists.{members}
 use Rattle.file.specs.declared.Refusal.TheVariants.{Absent, Unsound}
 use Rattle.file.specs.declared.RegisterKey.{RegisterKey}
@@ -8,18 +8,16 @@ use Rattle.graph.specs.Dag.{Entry, entry, same_key, node, present, size, node_at
 use Rattle.graph.specs.Soundness.{sound}
 use Rattle.queries.specs.Queries.{Lent, refuses, answers}
 use Rattle.accessors.specs.declared.KeptNode.{KeptNode}
-use Rattle.accessors.specs.declared.Got.{Got}
-use Rattle.accessors.specs.declared.Got.TheVariants.{Node as Holds, Refused as NotGot}
-use Rattle.accessors.specs.declared.Operation.{Operation}
-use Rattle.accessors.specs.declared.Operation.TheVariants.{Node, None, Refused}
+use Rattle.file.specs.declared.Refusal.{Refusal}
+use Rattle.graph.specs.declared.NodeIndex.{NodeIndex}
 
 -- "A node keeps kind, qubit form, label and place"
 abbrev pub kept_at : CircuitDag → ℕ → KeptNode
 kept_at g v = let n = node_at g v in record { kind = n.kind; form = n.form; label = n.label; place = n.place }
 
 -- what node v keeps; "graph isn't sound", "node absent"
-unfoldable pub get : CircuitDag → ℕ → Got
-get g v = cond (sound g) (cond (ltb v (size g)) (Holds (kept_at g v)) (NotGot Absent)) (NotGot Unsound)
+unfoldable pub get : CircuitDag → ℕ → Result KeptNode Refusal
+get g v = cond (sound g) (cond (ltb v (size g)) (Ok (kept_at g v)) (Err Absent)) (Err Unsound)
 
 -- "graph isn't sound", else the list in the lent buffer
 abbrev pub lists : CircuitDag → List ℕ → List ℕ → Lent
@@ -38,30 +36,30 @@ unfoldable pub last_parallel_block : CircuitDag → List ℕ → Lent
 last_parallel_block g buffer = lists g (members g.last.block) buffer
 
 -- "fixed arrays, an absent entry being marked": the entry of a map
-abbrev pub operation_of : ℕ → Operation
-operation_of v = cond (present v) (Node (node v)) None
+abbrev pub operation_of : ℕ → Option NodeIndex
+operation_of v = cond (present v) (Some (node v)) None
 
 -- "graph isn't sound", else the operation
-abbrev pub names : CircuitDag → Operation → Operation
-names g x = cond (sound g) x (Refused Unsound)
+abbrev pub names : CircuitDag → Option NodeIndex → Result (Option NodeIndex) Refusal
+names g x = cond (sound g) (Ok x) (Err Unsound)
 
 -- "first and last map from qubit to node": first[q]
-unfoldable pub first_involving_qubit : CircuitDag → ℕ → Operation
+unfoldable pub first_involving_qubit : CircuitDag → ℕ → Result (Option NodeIndex) Refusal
 first_involving_qubit g q = names g (operation_of (at_qubit g.first q))
 
 -- last[q]
-unfoldable pub last_involving_qubit : CircuitDag → ℕ → Operation
+unfoldable pub last_involving_qubit : CircuitDag → ℕ → Result (Option NodeIndex) Refusal
 last_involving_qubit g q = names g (operation_of (at_qubit g.last q))
 
 -- "Register maps, keyed (name, index)": the node at a key
-unfoldable pub node_of_key : RegisterKey → List Entry → Operation
+unfoldable pub node_of_key : RegisterKey → List Entry → Option NodeIndex
 node_of_key k [] = None
-node_of_key k (x ∷ l) = cond (same_key x (entry k.name k.index 0)) (Node (node x.node)) (node_of_key k l)
+node_of_key k (x ∷ l) = cond (same_key x (entry k.name k.index 0)) (Some (node x.node)) (node_of_key k l)
 
 -- first(name, index)
-unfoldable pub first_involving_classical : CircuitDag → RegisterKey → Operation
+unfoldable pub first_involving_classical : CircuitDag → RegisterKey → Result (Option NodeIndex) Refusal
 first_involving_classical g k = names g (node_of_key k (entries_of g.first_registers))
 
 -- last(name, index)
-unfoldable pub last_involving_classical : CircuitDag → RegisterKey → Operation
+unfoldable pub last_involving_classical : CircuitDag → RegisterKey → Result (Option NodeIndex) Refusal
 last_involving_classical g k = names g (node_of_key k (entries_of g.last_registers))

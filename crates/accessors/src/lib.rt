@@ -1,18 +1,18 @@
 // The source's remaining accessors, as queries on a handed-in graph. The rules are in specs/.
 #![tactic(auto)]
 
-ghost use Rattle.std.specs.Prelude.{◌≡◌, ◌&&◌, ◌≤◌, eqb};
+ghost use Rattle.std.specs.Prelude.{◌≡◌, ◌≤◌};
 ghost use Rattle.graph.specs.Dag.{at_qubit, entries_of};
 ghost use Rattle.accessors.specs.Accessors.{operation_of, node_of_key, get as get_rule, commuting_operations, first_parallel_block, last_parallel_block};
 ghost use Rattle.accessors.specs.Accessors.{first_involving_qubit, last_involving_qubit, first_involving_classical, last_involving_classical};
 
 use file::{Refusal, RegisterKey};
-use graph::{CircuitDag, End, NodeIndex, Qubit, Registers, is_sound};
-use queries::{Query, answer_list, answer_marked};
+use graph::{CircuitDag, End, NodeIndex, Qubit, Registers, check_sound};
+use queries::{answer_list, answer_marked};
 
 // What a node keeps.
 #[repr(C)]
-#[derive(Clone, Copy)]
+#[derive(Clone, Copy, Debug, PartialEq, Eq)]
 pub struct KeptNode {
     pub kind: u8,
     pub form: u8,
@@ -20,150 +20,115 @@ pub struct KeptNode {
     pub place: i16,
 }
 
-// What `get` answers.
-#[derive(Clone, Copy)]
-pub enum Got {
-    Node(KeptNode),
-    Refused(Refusal),
-}
-
-// The operation that a map names, if any.
-#[derive(Clone, Copy)]
-pub enum Operation {
-    Node(NodeIndex),
-    None,
-    Refused(Refusal),
-}
-
 // What node v keeps.
-pub fn get(g: CircuitDag, v: NodeIndex) -> Got
+#[tactic(auto, unfolding(crate::specs::Accessors::get))]
+pub fn get(g: CircuitDag, v: NodeIndex) -> Result<KeptNode, Refusal>
     ensures { result ≡ get_rule g v.0 }
 {
-    if !is_sound(g) {
-        return Got::Refused(Refusal::Unsound);
+    check_sound(g)?;
+    let i = usize::from(v.0);
+    if g.nodes.count <= i {
+        return Err(Refusal::Absent);
     }
-    let nodes = g.nodes;
-    let i = file::to_index(v.0);
-    if nodes.count <= i {
-        return Got::Refused(Refusal::Absent);
-    }
-    Got::Node(KeptNode {
-        kind: nodes.kind[i],
-        form: nodes.form[i],
-        label: nodes.label[i],
-        place: nodes.place[i],
+    Ok(KeptNode {
+        kind: g.nodes.kind[i],
+        form: g.nodes.form[i],
+        label: g.nodes.label[i],
+        place: g.nodes.place[i],
     })
 }
 
 // The commuting list.
-pub fn commuting_operations(g: CircuitDag, buffer: &mut [u16]) -> Query
+#[tactic(auto, unfolding(crate::specs::Accessors::commuting_operations))]
+pub fn commuting_operations(g: CircuitDag, buffer: &mut [u16]) -> Result<usize, Refusal>
     ensures { record { answer = result; buffer = buffer.new } ≡ commuting_operations g buffer.old }
 {
-    if !is_sound(g) {
-        return Query::Refused(Refusal::Unsound);
-    }
-    let list = g.commuting.list;
-    let start: usize = 0;
-    let end = g.commuting.count;
-    answer_list(&list[start..end], buffer)
+    check_sound(g)?;
+    answer_list(&g.commuting.list[..g.commuting.count], buffer)
 }
 
 // The nodes of the first block, ascending.
-pub fn first_parallel_block(g: CircuitDag, buffer: &mut [u16]) -> Query
+#[tactic(auto, unfolding(crate::specs::Accessors::first_parallel_block))]
+pub fn first_parallel_block(g: CircuitDag, buffer: &mut [u16]) -> Result<usize, Refusal>
     ensures { record { answer = result; buffer = buffer.new } ≡ first_parallel_block g buffer.old }
 {
-    if !is_sound(g) {
-        return Query::Refused(Refusal::Unsound);
-    }
-    let block = g.first.block;
-    answer_marked(block, buffer)
+    check_sound(g)?;
+    answer_marked(g.first.block, buffer)
 }
 
 // The nodes of the last block, ascending.
-pub fn last_parallel_block(g: CircuitDag, buffer: &mut [u16]) -> Query
+#[tactic(auto, unfolding(crate::specs::Accessors::last_parallel_block))]
+pub fn last_parallel_block(g: CircuitDag, buffer: &mut [u16]) -> Result<usize, Refusal>
     ensures { record { answer = result; buffer = buffer.new } ≡ last_parallel_block g buffer.old }
 {
-    if !is_sound(g) {
-        return Query::Refused(Refusal::Unsound);
-    }
-    let block = g.last.block;
-    answer_marked(block, buffer)
+    check_sound(g)?;
+    answer_marked(g.last.block, buffer)
 }
 
 // The operation that an end's map has at a qubit.
-fn at_qubit(end: End, q: Qubit) -> Operation
+fn at_qubit(end: End, q: Qubit) -> Option<NodeIndex>
     ensures { result ≡ operation_of (at_qubit end q.0) }
 {
-    let i = q.0 as usize;
-    if 64 <= i {
-        return Operation::None;
+    match end.node.get(usize::from(q.0)) {
+        Some(&v) if v != 65535 => Some(NodeIndex(v)),
+        _ => None,
     }
-    let v = end.node[i];
-    if v == 65535 {
-        return Operation::None;
-    }
-    Operation::Node(NodeIndex(v))
 }
 
 // The first operation that involves a qubit.
-pub fn first_operation_involving_qubit(g: CircuitDag, q: Qubit) -> Operation
+#[tactic(auto, unfolding(crate::specs::Accessors::first_involving_qubit))]
+pub fn first_operation_involving_qubit(
+    g: CircuitDag,
+    q: Qubit,
+) -> Result<Option<NodeIndex>, Refusal>
     ensures { result ≡ first_involving_qubit g q.0 }
 {
-    if !is_sound(g) {
-        return Operation::Refused(Refusal::Unsound);
-    }
-    at_qubit(g.first, q)
+    check_sound(g)?;
+    Ok(at_qubit(g.first, q))
 }
 
 // The last operation that involves a qubit.
-pub fn last_operation_involving_qubit(g: CircuitDag, q: Qubit) -> Operation
+#[tactic(auto, unfolding(crate::specs::Accessors::last_involving_qubit))]
+pub fn last_operation_involving_qubit(g: CircuitDag, q: Qubit) -> Result<Option<NodeIndex>, Refusal>
     ensures { result ≡ last_involving_qubit g q.0 }
 {
-    if !is_sound(g) {
-        return Operation::Refused(Refusal::Unsound);
-    }
-    at_qubit(g.last, q)
-}
-
-// An entry's name and index are the key's.
-fn is_key(name: u8, index: u16, key: RegisterKey) -> bool
-    ensures { result ≡ (eqb name key.name && eqb index key.index) }
-{
-    (name == key.name) & (index == key.index)
+    check_sound(g)?;
+    Ok(at_qubit(g.last, q))
 }
 
 // The operation that a register map has at a key.
-fn at_key(r: Registers, key: RegisterKey) -> Operation
+fn at_key(r: Registers, key: RegisterKey) -> Option<NodeIndex>
     requires { r.count ≤ 256 }
     ensures { result ≡ node_of_key key (entries_of r) }
 {
-    let n = r.count;
-    let mut i: usize = 0;
-    while i < n {
-        if is_key(r.name[i], r.index[i], key) {
-            return Operation::Node(NodeIndex(r.node[i]));
+    for i in 0..r.count {
+        if r.name[i] == key.name && r.index[i] == key.index {
+            return Some(NodeIndex(r.node[i]));
         }
-        i += 1;
     }
-    Operation::None
+    None
 }
 
 // The first operation that involves a classical register's entry.
-pub fn first_operation_involving_classical(g: CircuitDag, key: RegisterKey) -> Operation
+#[tactic(auto, unfolding(crate::specs::Accessors::first_involving_classical))]
+pub fn first_operation_involving_classical(
+    g: CircuitDag,
+    key: RegisterKey,
+) -> Result<Option<NodeIndex>, Refusal>
     ensures { result ≡ first_involving_classical g key }
 {
-    if !is_sound(g) {
-        return Operation::Refused(Refusal::Unsound);
-    }
-    at_key(g.first_registers, key)
+    check_sound(g)?;
+    Ok(at_key(g.first_registers, key))
 }
 
 // The last operation that involves a classical register's entry.
-pub fn last_operation_involving_classical(g: CircuitDag, key: RegisterKey) -> Operation
+#[tactic(auto, unfolding(crate::specs::Accessors::last_involving_classical))]
+pub fn last_operation_involving_classical(
+    g: CircuitDag,
+    key: RegisterKey,
+) -> Result<Option<NodeIndex>, Refusal>
     ensures { result ≡ last_involving_classical g key }
 {
-    if !is_sound(g) {
-        return Operation::Refused(Refusal::Unsound);
-    }
-    at_key(g.last_registers, key)
+    check_sound(g)?;
+    Ok(at_key(g.last_registers, key))
 }

@@ -2,5 +2,5 @@
 #![tactic(auto)]
 
 fn main(rt: HostRuntime) {
-    standard_io::print_blocks_by(&rt, links::FAR_ALL);
+    standard_io::print_blocks_by(&rt, links::LoadingRule::FarAll);
 }

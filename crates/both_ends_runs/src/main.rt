@@ -4,13 +4,10 @@
 // successors of some nodes are shown. tools/graph_answers.py computes the same from the documents.
 #![tactic(auto)]
 
-use file::{FileCheck, Outcome, Refusal, RefusalValue};
+use file::Refusal;
 use graph::{CircuitDag, NodeIndex};
-use insertion::Answer;
 use links::LoadingRule;
-use queries::Query;
 use std::io;
-use walk::BlockCount;
 
 fn print(rt: &impl Print, text: &[u8]) -> io::Result<()> {
     rt.write_all(text)
@@ -25,8 +22,8 @@ fn print_refusal(rt: &impl Print, r: Refusal) -> io::Result<()> {
     print_number(rt, file::refusal_number(r) as usize)?;
     let value = file::refusal_value(r);
     match value {
-        RefusalValue::Nothing => {}
-        RefusalValue::At(i) => {
+        None => {}
+        Some(i) => {
             print(rt, b" at")?;
             print_number(rt, i)?;
         }
@@ -37,13 +34,11 @@ fn print_refusal(rt: &impl Print, r: Refusal) -> io::Result<()> {
 // The first nine entries, and the end of the line.
 fn print_entries(rt: &impl Print, entries: &[u16]) -> io::Result<()> {
     print(rt, b" |")?;
-    let mut i: usize = 0;
-    while i < 9 {
+    for i in 0..9 {
         if entries.len() <= i {
             break;
         }
         print_number(rt, file::to_index(entries[i]))?;
-        i += 1;
     }
     print(rt, b"\n")
 }
@@ -51,10 +46,8 @@ fn print_entries(rt: &impl Print, entries: &[u16]) -> io::Result<()> {
 // A buffer before a call.
 fn fill(buffer: &mut [u16]) {
     let n = buffer.len();
-    let mut i: usize = 0;
-    while i < n {
+    for i in 0..n {
         buffer[i] = 9999;
-        i += 1;
     }
 }
 
@@ -63,8 +56,8 @@ fn print_schedule(rt: &impl Print, file: &[u8], buffer: &mut [u16]) -> io::Resul
     print(rt, b"schedule_both_ends")?;
     let answer = schedule::schedule_both_ends(file, &mut *buffer);
     match answer {
-        BlockCount::Blocks(k) => print_number(rt, k)?,
-        BlockCount::Refused(r) => print_refusal(rt, r)?,
+        Ok(k) => print_number(rt, k)?,
+        Err(r) => print_refusal(rt, r)?,
     }
     print_entries(rt, &*buffer)
 }
@@ -75,8 +68,8 @@ fn print_successors(rt: &impl Print, g: CircuitDag, v: u16) -> io::Result<()> {
     print(rt, b"successors")?;
     print_number(rt, file::to_index(v))?;
     match answer {
-        Query::Entries(k) => print_number(rt, k)?,
-        Query::Refused(r) => print_refusal(rt, r)?,
+        Ok(k) => print_number(rt, k)?,
+        Err(r) => print_refusal(rt, r)?,
     }
     print_entries(rt, &buffer)
 }
@@ -99,21 +92,19 @@ fn print_graph(rt: &impl Print, g: CircuitDag) -> io::Result<()> {
     let last = g.last.node;
     print_end(rt, b"first", g.first.all, &first)?;
     print_end(rt, b"last", g.last.all, &last)?;
-    let mut v: u16 = 0;
-    while v < 6 {
+    for v in 0..6 {
         print_successors(rt, g, v)?;
-        v += 1;
     }
     Ok(())
 }
 
 fn print_load(rt: &impl Print, file: &[u8]) -> io::Result<()> {
     print(rt, b"load_by")?;
-    let x = insertion::load_by(links::FAR_ALL, file);
+    let x = insertion::load_by(LoadingRule::FarAll, file);
     let answer = x.answer;
     match answer {
-        Outcome::Done => print(rt, b" accepted")?,
-        Outcome::Refused(r) => print_refusal(rt, r)?,
+        Ok(()) => print(rt, b" accepted")?,
+        Err(r) => print_refusal(rt, r)?,
     }
     print_graph(rt, x.graph)
 }
@@ -128,8 +119,8 @@ fn insert_one(
     let x = insertion::insert_by(rule, g, part);
     let answer = x.answer;
     match answer {
-        Answer::Node(v) => {}
-        Answer::Refused(r) => {
+        Ok(v) => {}
+        Err(r) => {
             print(rt, b"insert_by")?;
             print_refusal(rt, r)?;
             print(rt, b"\n")?;
@@ -147,11 +138,9 @@ fn insert_each(
 ) -> io::Result<()> {
     let n = file::record_count(file);
     let mut g = CircuitDag::new();
-    let mut i: usize = 0;
-    while i < n {
+    for i in 0..n {
         let rule = if i % 2 == 0 { even } else { odd };
         g = insert_one(rt, rule, g, file::part_of(file, i))?;
-        i += 1;
     }
     print(rt, b"inserted")?;
     print_graph(rt, g)?;
@@ -164,7 +153,7 @@ fn insert_each(
 
 // The file's blocks, and its schedule.
 fn print_blocks(rt: &impl Print, file: &[u8]) -> io::Result<()> {
-    let text = report::blocks_text_by(links::FAR_ALL, file);
+    let text = report::blocks_text_by(LoadingRule::FarAll, file);
     let bytes = text.bytes;
     let length = text.length;
     rt.write_all(&bytes[..length])?;
@@ -184,10 +173,10 @@ fn print_file(rt: &impl Print, file: &[u8]) -> io::Result<()> {
     print_load(rt, file)?;
     let found = file::check_file(file);
     match found {
-        FileCheck::Refused(r) => {}
-        FileCheck::Sound => {
-            insert_each(rt, file, links::FAR_ALL, links::FAR_ALL)?;
-            insert_each(rt, file, links::FAR_ALL, links::NEAR_ALL)?;
+        Err(_) => {}
+        Ok(()) => {
+            insert_each(rt, file, LoadingRule::FarAll, LoadingRule::FarAll)?;
+            insert_each(rt, file, LoadingRule::FarAll, LoadingRule::NearAll)?;
         }
     }
     Ok(())

@@ -3,9 +3,9 @@
 // register entries, since a refusal leaves the graph or gives the empty one. tools/graph_answers.py computes the same from the documents.
 #![tactic(auto)]
 
-use file::{Outcome, Refusal, RefusalValue};
+use file::Refusal;
 use graph::CircuitDag;
-use insertion::{Answer, Loaded};
+use insertion::Loaded;
 use std::io;
 
 fn print(rt: &impl Print, text: &[u8]) -> io::Result<()> {
@@ -21,8 +21,8 @@ fn print_refusal(rt: &impl Print, r: Refusal) -> io::Result<()> {
     print_number(rt, file::refusal_number(r) as usize)?;
     let value = file::refusal_value(r);
     match value {
-        RefusalValue::Nothing => {}
-        RefusalValue::At(i) => {
+        None => {}
+        Some(i) => {
             print(rt, b" at")?;
             print_number(rt, i)?;
         }
@@ -46,8 +46,8 @@ fn print_loaded(rt: &impl Print, title: &[u8], x: Loaded) -> io::Result<()> {
     print(rt, title)?;
     let answer = x.answer;
     match answer {
-        Outcome::Done => print(rt, b" accepted")?,
-        Outcome::Refused(r) => print_refusal(rt, r)?,
+        Ok(()) => print(rt, b" accepted")?,
+        Err(r) => print_refusal(rt, r)?,
     }
     print_counts(rt, x.graph)
 }
@@ -58,11 +58,11 @@ fn insert_one(rt: &impl Print, g: CircuitDag, part: &[u8]) -> io::Result<Circuit
     let x = insertion::insert(g, part);
     let answer = x.answer;
     match answer {
-        Answer::Node(v) => {
+        Ok(v) => {
             print(rt, b" node")?;
             print_number(rt, file::to_index(v.0))?;
         }
-        Answer::Refused(r) => print_refusal(rt, r)?,
+        Err(r) => print_refusal(rt, r)?,
     }
     print_counts(rt, x.graph)?;
     Ok(x.graph)
@@ -72,10 +72,8 @@ fn insert_one(rt: &impl Print, g: CircuitDag, part: &[u8]) -> io::Result<Circuit
 fn insert_each(rt: &impl Print, file: &[u8]) -> io::Result<CircuitDag> {
     let n = file::record_count(file);
     let mut g = CircuitDag::new();
-    let mut i: usize = 0;
-    while i < n {
+    for i in 0..n {
         g = insert_one(rt, g, file::part_of(file, i))?;
-        i += 1;
     }
     Ok(g)
 }

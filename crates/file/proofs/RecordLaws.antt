@@ -16,14 +16,13 @@ use Rattle.file.proofs.PairLaws.{field_past, pair_there}
 use Rattle.file.specs.declared.Refusal.{Refusal}
 use Rattle.file.specs.declared.Refusal.TheVariants.{FileTooShort, TooManyRecords, BadPair, BadRecord, TooManyNodes, TooManyEdges}
 use Rattle.file.specs.declared.Refusal.TheVariants.{TooManyRegisters, Absent, NotInLayer, ShortBuffer, Unsound, EmptySet}
-use Rattle.file.specs.declared.FileCheck.TheVariants.{Sound}
 use Rattle.file.specs.declared.Place.{Place}
-use Rattle.file.specs.declared.Place.TheVariants.{At, Refused as NotThere}
 use Rattle.file.specs.declared.Record.{Record}
 use Rattle.file.specs.declared.InvolvedQubits.{InvolvedQubits}
 use Rattle.file.specs.declared.InvolvedClassical.{InvolvedClassical}
 use Rattle.file.specs.declared.InvolvedClassical.TheVariants.{None, All, AllQubits, Set, Definition}
-use Rattle.file.specs.declared.Parsed.TheVariants.{Record as Parses, Refused}
+use Rattle.file.specs.Pairs.{stands_at}
+use Rattle.std.specs.Prelude.{Result, Ok, Err}
 
 -- ---- What a record that keeps its rule has
 
@@ -90,19 +89,19 @@ pub same_bytes : (s t : List ℕ) (i j : ℕ) → record_at s i ≡ record_at t 
 same_bytes s t i j e = ap Records.parse_record e
 
 -- a record that parses is good and says what record_of has; one that does not is not good, and its cause is cause_of
-pub parsed_good : (s : List ℕ) (r : Record) → Records.parse_record s ≡ Parses r → (Records.good s ≡ true) × (r ≡ Records.record_of s)
+pub parsed_good : (s : List ℕ) (r : Record) → Records.parse_record s ≡ Ok r → (Records.good s ≡ true) × (r ≡ Records.record_of s)
 unfolding Records.parse_record
 parsed_good s r e = told (Records.good s) e
   where
-    told : (b : Bool) → cond b (Parses (Records.record_of s)) (Refused (Records.cause_of s)) ≡ Parses r → (b ≡ true) × (r ≡ Records.record_of s)
+    told : (b : Bool) → cond b (Ok (Records.record_of s)) (Err (Records.cause_of s)) ≡ Ok r → (b ≡ true) × (r ≡ Records.record_of s)
     told true e = (refl, cc)
     told false e = let z : ◌≡◌ {A = ℕ} 0 1 = cc in absurd (omega arith)
 
-pub not_parsed : (s : List ℕ) (x : Refusal) → Records.parse_record s ≡ Refused x → (Records.good s ≡ false) × (x ≡ Records.cause_of s)
+pub not_parsed : (s : List ℕ) (x : Refusal) → Records.parse_record s ≡ Err x → (Records.good s ≡ false) × (x ≡ Records.cause_of s)
 unfolding Records.parse_record
 not_parsed s x e = told (Records.good s) e
   where
-    told : (b : Bool) → cond b (Parses (Records.record_of s)) (Refused (Records.cause_of s)) ≡ Refused x → (b ≡ false) × (x ≡ Records.cause_of s)
+    told : (b : Bool) → cond b (Ok (Records.record_of s)) (Err (Records.cause_of s)) ≡ Err x → (b ≡ false) × (x ≡ Records.cause_of s)
     told true e = let z : ◌≡◌ {A = ℕ} 0 1 = cc in absurd (omega arith)
     told false e = (refl, cc)
 
@@ -149,52 +148,52 @@ pub good_some : (s : List ℕ) → Records.good s ≡ true → Records.empty_set
 unfolding Records.good
 good_some s e = not-true (Records.empty_set s) (both_true (Records.record_rule s) (not (Records.empty_set s)) e).1
 
-pub parsed : (s : List ℕ) (r : Record) → Records.parse_record s ≡ Parses r → (Records.record_rule s ≡ true) × (r ≡ Records.record_of s)
+pub parsed : (s : List ℕ) (r : Record) → Records.parse_record s ≡ Ok r → (Records.record_rule s ≡ true) × (r ≡ Records.record_of s)
 parsed s r e = let p = parsed_good s r e in (good_keeps s p.0, p.1)
 
 -- nothing is no record
-nothing_parses : (r : Record) → Records.parse_record [] ≡ Parses r → ⊥
+nothing_parses : (r : Record) → Records.parse_record [] ≡ Ok r → ⊥
 unfolding Records.parse_record Records.good Records.record_rule
 nothing_parses r e = let z : ◌≡◌ {A = ℕ} 0 1 = cc in omega arith
 
 -- record i of a file, by the parser's answer on the part that its pair gives
 module _ (s : List ℕ) (i : ℕ) where
-  pub taken : (r : Record) → Records.parse_record (record_at s i) ≡ Parses r → Records.parse_at s i ≡ Parses r
+  pub taken : (r : Record) → Records.parse_record (record_at s i) ≡ Ok r → Records.parse_at s i ≡ Ok r
   unfolding Records.parse_at
   taken r e = by (pair_place s i) e
     where
-      by : (p : Place) → Records.parse_record (part_of p s) ≡ Parses r → Records.parse_from p s i ≡ Parses r
-      by (NotThere x) q = absurd (nothing_parses r q)
-      by (At o l) q = ap (Records.numbered i) q
+      by : (p : Result Place Refusal) → Records.parse_record (part_of p s) ≡ Ok r → Records.parse_from p s i ≡ Ok r
+      by (Err x) q = absurd (nothing_parses r q)
+      by (Ok p) q = ap (Records.numbered i) q
 
-  pub not_taken : (c : Refusal) → Records.parse_record (record_at s i) ≡ Refused c → Records.parse_at s i ≡ Refused (Records.refusal_from (pair_place s i) c i)
+  pub not_taken : (c : Refusal) → Records.parse_record (record_at s i) ≡ Err c → Records.parse_at s i ≡ Err (Records.refusal_from (pair_place s i) c i)
   unfolding Records.parse_at
   not_taken c e = by (pair_place s i) e
     where
-      by : (p : Place) → Records.parse_record (part_of p s) ≡ Refused c → Records.parse_from p s i ≡ Refused (Records.refusal_from p c i)
-      by (NotThere x) q = refl
-      by (At o l) q = ap (Records.numbered i) q
+      by : (p : Result Place Refusal) → Records.parse_record (part_of p s) ≡ Err c → Records.parse_from p s i ≡ Err (Records.refusal_from p c i)
+      by (Err x) q = refl
+      by (Ok p) q = ap (Records.numbered i) q
 
   -- a record that is taken stands in the file
-  pub taken_there : (r : Record) → Records.parse_at s i ≡ Parses r → (x : Refusal) → pair_place s i ≡ NotThere x → ⊥
+  pub taken_there : (r : Record) → Records.parse_at s i ≡ Ok r → (x : Refusal) → pair_place s i ≡ Err x → ⊥
   unfolding Records.parse_at
   taken_there r e x h = let z : ◌≡◌ {A = ℕ} 0 1 = cc in omega arith
 
 -- on a file that passed the check, a record below the count is refused for its own bytes alone
-pub checked_at : (s : List ℕ) (i : ℕ) → check_file s ≡ Sound → i < count_of s
-    → Records.parse_at s i ≡ cond (Records.good (record_at s i)) (Parses (Records.record_of (record_at s i))) (Refused (at_record i (Records.cause_of (record_at s i))))
+pub checked_at : (s : List ℕ) (i : ℕ) → check_file s ≡ Ok tt → i < count_of s
+    → Records.parse_at s i ≡ cond (Records.good (record_at s i)) (Ok (Records.record_of (record_at s i))) (Err (at_record i (Records.cause_of (record_at s i))))
 unfolding Records.parse_at Records.parse_record
 checked_at s i e l = by (pair_place s i) (pair_there s i e l)
   where
-    told : (b : Bool) (r : Record) (c : Refusal) → Records.numbered i (cond b (Parses r) (Refused c)) ≡ cond b (Parses r) (Refused (at_record i c))
+    told : (b : Bool) (r : Record) (c : Refusal) → Records.numbered i (cond b (Ok r) (Err c)) ≡ cond b (Ok r) (Err (at_record i c))
     told true r c = refl
     told false r c = refl
 
-    by : (p : Place) → p ≡ At (offset_of s i) (length_of s i)
+    by : (p : Result Place Refusal) → p ≡ stands_at (offset_of s i) (length_of s i)
         → Records.parse_from p s i
-        ≡ cond (Records.good (part_of p s)) (Parses (Records.record_of (part_of p s))) (Refused (at_record i (Records.cause_of (part_of p s))))
-    by (NotThere x) q = let z : ◌≡◌ {A = ℕ} 0 1 = cc in absurd (omega arith)
-    by (At o k) q = told (Records.good (part_of (At o k) s)) (Records.record_of (part_of (At o k) s)) (Records.cause_of (part_of (At o k) s))
+        ≡ cond (Records.good (part_of p s)) (Ok (Records.record_of (part_of p s))) (Err (at_record i (Records.cause_of (part_of p s))))
+    by (Err x) q = let z : ◌≡◌ {A = ℕ} 0 1 = cc in absurd (omega arith)
+    by (Ok p) q = told (Records.good (part_of (Ok p) s)) (Records.record_of (part_of (Ok p) s)) (Records.cause_of (part_of (Ok p) s))
 
 -- the form's number of what a record involves is the record's qubit form
 pub form_kept : (s : List ℕ) → Records.record_rule s ≡ true → Records.form_of (Records.qubits_of s) ≡ Records.qubit_form s
@@ -236,13 +235,16 @@ register_kept s e = ⊎_elim
 -- ---- One turn of `is_ascending`
 
 module _ (s : List ℕ) (c k : ℕ) where
-  pub ascend_turn : (b : Bool) → k + 1 < c → b ≡ Records.entry_before s k → Records.ascend_from (c - 1 - k) k s ≡ (b && Records.ascend_from (c - 1 - (k + 1)) (k + 1) s)
+  pub ascend_turn : (b : Bool) → 1 ≤ k → k < c → b ≡ Records.entry_before s (k - 1) → Records.ascend_from (c - k) (k - 1) s ≡ (b && Records.ascend_from (c - (k + 1)) (k + 1 - 1) s)
   unfolding Records.ascend_from
-  ascend_turn b l e = let z : c - 1 - k ≡ suc (c - 1 - (k + 1)) = omega arith in rw (z, e) refl
+  ascend_turn b low l e =
+      let z : c - k ≡ suc (c - (k + 1)) = omega arith in
+      let y : k - 1 + 1 ≡ k + 1 - 1 = omega arith in
+      rw (z, e, y) refl
 
-  pub ascend_end : c ≤ k + 1 → Records.ascend_from (c - 1 - k) k s ≡ true
+  pub ascend_end : c ≤ k → Records.ascend_from (c - k) (k - 1) s ≡ true
   unfolding Records.ascend_from
-  ascend_end l = let z : c - 1 - k ≡ 0 = omega arith in rw z refl
+  ascend_end l = let z : c - k ≡ 0 = omega arith in rw z refl
 
 -- ---- The answers of `is_set`, `register_key` and `parse_record`
 
@@ -255,38 +257,38 @@ module _ (s : List ℕ) where
   pub no_entry : (k : ℕ) → length s ≤ 15 + 3 * k → record { name = 0; index = 0 } ≡ Records.key_at s k
   no_entry k l = let h : length s ≤ 16 + 3 * k = omega arith in rw (get_or-eq_default s 0 l, field_past s (16 + 3 * k) h) refl
 
-  pub too_short : length s < 14 → Refused (BadRecord 0) ≡ Records.parse_record s
+  pub too_short : length s < 14 → Err (BadRecord 0) ≡ Records.parse_record s
   unfolding Records.parse_record Records.good Records.cause_of Records.record_rule
   too_short l = rw (lt-leb 14 (length s) l) refl
 
   module _ (long : 14 ≤ length s) where
-    pub bad_end : 1 < get_or s 0 0 → Refused (BadRecord 0) ≡ Records.parse_record s
+    pub bad_end : 1 < get_or s 0 0 → Err (BadRecord 0) ≡ Records.parse_record s
     unfolding Records.parse_record Records.good Records.cause_of Records.record_rule
     bad_end l = rw (le-leb 14 (length s) long, lt-leb (get_or s 0 0) 1 l) refl
 
     module _ (side : get_or s 0 0 ≤ 1) where
-      pub bad_kind : kind_rule s ≡ false → Refused (BadRecord 0) ≡ Records.parse_record s
+      pub bad_kind : kind_rule s ≡ false → Err (BadRecord 0) ≡ Records.parse_record s
       unfolding Records.parse_record Records.good Records.cause_of Records.record_rule
       bad_kind e = rw (le-leb 14 (length s) long, le-leb (get_or s 0 0) 1 side, e) refl
 
       module _ (m : ℕ) (read : m ≡ Records.mask s) (k : kind_rule s ≡ true) where
-        pub bad_qubits : Records.qubit_rule (Records.qubit_form s) m ≡ false → Refused (BadRecord 0) ≡ Records.parse_record s
+        pub bad_qubits : Records.qubit_rule (Records.qubit_form s) m ≡ false → Err (BadRecord 0) ≡ Records.parse_record s
         unfolding Records.parse_record Records.good Records.cause_of Records.record_rule
         bad_qubits e = rw (le-leb 14 (length s) long, le-leb (get_or s 0 0) 1 side, k, ← read, e) refl
 
         module _ (q : Records.qubit_rule (Records.qubit_form s) m ≡ true) where
-          pub bad_tail : Records.tail_rule s ≡ false → Refused (BadRecord 0) ≡ Records.parse_record s
+          pub bad_tail : Records.tail_rule s ≡ false → Err (BadRecord 0) ≡ Records.parse_record s
           unfolding Records.parse_record Records.good Records.cause_of Records.record_rule
           bad_tail e = rw (le-leb 14 (length s) long, le-leb (get_or s 0 0) 1 side, k, ← read, q, e) refl
 
   -- a record that keeps its rule: refused 12, or what it says
   module _ (keeps : Records.record_rule s ≡ true) where
-    pub empty_set_lem : Records.empty_set s ≡ true → Refused (EmptySet 0) ≡ Records.parse_record s
+    pub empty_set_lem : Records.empty_set s ≡ true → Err (EmptySet 0) ≡ Records.parse_record s
     unfolding Records.parse_record Records.good Records.cause_of
     empty_set_lem z = rw (keeps, z) refl
 
     pub good : Records.empty_set s ≡ false → (x : InvolvedQubits) (y : InvolvedClassical) (l : ℕ)
         → x ≡ Records.qubits_of s → y ≡ Records.classical_of s → l ≡ Records.label s
-        → Parses (record { front = Records.front s; kind = Records.kind s; label = l; qubits = x; classical = y }) ≡ Records.parse_record s
+        → Ok (record { front = Records.front s; kind = Records.kind s; label = l; qubits = x; classical = y }) ≡ Records.parse_record s
     unfolding Records.parse_record Records.good
     good z x y l e g h = rw (keeps, z, e, g, h) refl

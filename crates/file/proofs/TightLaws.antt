@@ -7,14 +7,14 @@ use lib.Dec.{eqb, ltb}
 use lib.ListN.{length}
 use borrow.Author.Tests.{le-leb, eqb-true}
 use Rattle.file.specs.declared.Refusal.TheVariants.{FileTooShort, TooManyRecords, BadPair}
-use Rattle.file.specs.declared.FileCheck.TheVariants.{Sound}
 use Rattle.file.specs.Lists.{count_from}
 use Rattle.file.specs.Pairs.{number_at, count_of, offset_of, length_of, check_pairs, check_file}
 use Rattle.file.specs.Tight.{tight_pairs, tight_file, TightPasses, SlackCases}
 use Rattle.file.proofs.PairLaws.{was_true, was_false, not-refused}
+use Rattle.std.specs.Prelude.{Ok}
 
 -- pair by pair
-tight_pairs_lem : (m k due : ℕ) (s : List ℕ) → tight_pairs m k due s ≡ Sound → check_pairs m k due s ≡ Sound
+tight_pairs_lem : (m k due : ℕ) (s : List ℕ) → tight_pairs m k due s ≡ Ok tt → check_pairs m k due s ≡ Ok tt
 unfolding tight_pairs check_pairs
 tight_pairs_lem zero k due s e =
     let at : due ≡ length s = eqb-true _ _ (was_true (eqb due (length s)) _ _ _ e (not-refused (BadPair (k - 1)))).0 in
@@ -25,7 +25,7 @@ tight_pairs_lem (suc m) k due s e =
     rw (le-leb due (offset_of s k) (omega arith), at) (tight_pairs_lem m (k + 1) (due + length_of s k) s w.1)
 
 -- the tests of the header are the same
-tight_passes : (s : List ℕ) → tight_file s ≡ Sound → check_file s ≡ Sound
+tight_passes : (s : List ℕ) → tight_file s ≡ Ok tt → check_file s ≡ Ok tt
 unfolding tight_file check_file
 tight_passes s e =
     let a = was_false (ltb (length s) 2) _ _ _ e (not-refused FileTooShort) in

@@ -1,19 +1,17 @@
 -- "A record", by the sentences of document 01, K2 and K3 on its bytes. Assumes nothing.
-use Rattle.std.specs.Prelude.{Bool, true, false, cond, not, ◌&&◌, ◌||◌, List, ℕ, zero, suc, ◌+◌, ◌*◌, ◌-◌, ltb, leb, eqb, length, get_or}
+use Rattle.std.specs.Prelude.{Bool, true, false, cond, not, ◌&&◌, ◌||◌, List, ℕ, zero, suc, ◌+◌, ◌*◌, ◌-◌, ltb, leb, eqb, length, get_or, Result, Ok, Err}
 use Rattle.file.specs.Pairs.{number_at, pair_place, part_of}
 use Rattle.file.specs.Refusals.{at_record}
 use Rattle.file.specs.declared.Refusal.{Refusal}
 use Rattle.file.specs.declared.Refusal.TheVariants.{BadRecord, EmptySet}
 use Rattle.file.specs.declared.Place.{Place}
-use Rattle.file.specs.declared.Place.TheVariants.{At, Refused as NotThere}
 use Rattle.file.specs.declared.RegisterKey.{RegisterKey}
 use Rattle.file.specs.declared.Record.{Record}
-use Rattle.file.specs.declared.Parsed.{Parsed}
-use Rattle.file.specs.declared.Parsed.TheVariants.{Record as Parses, Refused}
 use Rattle.file.specs.declared.InvolvedQubits.{InvolvedQubits}
 use Rattle.file.specs.declared.InvolvedQubits.TheVariants.{None, All, Set}
 use Rattle.file.specs.declared.InvolvedClassical.{InvolvedClassical}
 use Rattle.file.specs.declared.InvolvedClassical.TheVariants.{None as NoRegister, All as AllOf, AllQubits, Set as SetOf, Definition}
+use Rattle.file.specs.Pairs.{stands_at}
 
 -- "byte 0, end: 0 back, 1 front"; "Byte 0 alone makes an insertion a back or a front one"
 abbrev pub front : List ℕ → Bool
@@ -162,24 +160,24 @@ unfoldable pub cause_of : List ℕ → Refusal
 cause_of s = cond (record_rule s) (EmptySet 0) (BadRecord 0)
 
 -- what a record's bytes say, or why they are refused
-unfoldable pub parse_record : List ℕ → Parsed
-parse_record s = cond (good s) (Parses (record_of s)) (Refused (cause_of s))
+unfoldable pub parse_record : List ℕ → Result Record Refusal
+parse_record s = cond (good s) (Ok (record_of s)) (Err (cause_of s))
 
 -- why record i of the file is not taken, by where it stands: 2, 1, 8, 3, else c, its bytes' own cause, with its number
-abbrev pub refusal_from : Place → Refusal → ℕ → Refusal
-refusal_from (NotThere r) c i = r
-refusal_from (At o l) c i = at_record i c
+abbrev pub refusal_from : Result Place Refusal → Refusal → ℕ → Refusal
+refusal_from (Err r) c i = r
+refusal_from (Ok p) c i = at_record i c
 
 -- what parsing found, a refusal with the record's number
-abbrev pub numbered : ℕ → Parsed → Parsed
-numbered i (Parses r) = Parses r
-numbered i (Refused c) = Refused (at_record i c)
+abbrev pub numbered : ℕ → Result Record Refusal → Result Record Refusal
+numbered i (Ok r) = Ok r
+numbered i (Err c) = Err (at_record i c)
 
 -- record i of the file by its own pair: refused by where it stands, else by its bytes
-abbrev pub parse_from : Place → List ℕ → ℕ → Parsed
-parse_from (NotThere r) s i = Refused r
-parse_from (At o l) s i = numbered i (parse_record (part_of (At o l) s))
+abbrev pub parse_from : Result Place Refusal → List ℕ → ℕ → Result Record Refusal
+parse_from (Err r) s i = Err r
+parse_from (Ok p) s i = numbered i (parse_record (part_of (Ok p) s))
 
 -- .. where its pair says that it stands
-unfoldable pub parse_at : List ℕ → ℕ → Parsed
+unfoldable pub parse_at : List ℕ → ℕ → Result Record Refusal
 parse_at s i = parse_from (pair_place s i) s i

@@ -1,8 +1,6 @@
 -- "Causes of refusal": the paper's number and value of each. Assumes nothing.
-use Rattle.std.specs.Prelude.{ℕ}
+use Rattle.std.specs.Prelude.{List, [], ◌∷◌, ◌++◌, ℕ, Option, Some, None, decimal}
 use Rattle.file.specs.declared.Refusal.{Refusal}
-use Rattle.file.specs.declared.RefusalValue.{RefusalValue}
-use Rattle.file.specs.declared.RefusalValue.TheVariants.{Nothing, At}
 use Rattle.file.specs.declared.Refusal.TheVariants.{FileTooShort, TooManyRecords, BadPair, BadRecord, TooManyNodes, TooManyEdges}
 use Rattle.file.specs.declared.Refusal.TheVariants.{TooManyRegisters, Absent, NotInLayer, ShortBuffer, Unsound, EmptySet}
 
@@ -22,19 +20,19 @@ number_of Unsound = 11  -- "graph isn't sound"
 number_of (EmptySet i) = 12  -- K2: "a Set with mask zero"
 
 -- "| returned |": "number, first such pair", "number, record", "number, 0", or the number alone
-abbrev pub value_of : Refusal → RefusalValue
-value_of FileTooShort = Nothing
-value_of TooManyRecords = Nothing
-value_of (BadPair i) = At i
-value_of (BadRecord i) = At i
-value_of TooManyNodes = At 0
-value_of (TooManyEdges i) = At i
-value_of (TooManyRegisters i) = At i
-value_of Absent = Nothing
-value_of NotInLayer = Nothing
-value_of ShortBuffer = Nothing
-value_of Unsound = Nothing
-value_of (EmptySet i) = At i  -- K2: "it returns and leaves what 4 does"
+abbrev pub value_of : Refusal → Option ℕ
+value_of FileTooShort = None
+value_of TooManyRecords = None
+value_of (BadPair i) = Some i
+value_of (BadRecord i) = Some i
+value_of TooManyNodes = Some 0
+value_of (TooManyEdges i) = Some i
+value_of (TooManyRegisters i) = Some i
+value_of Absent = None
+value_of NotInLayer = None
+value_of ShortBuffer = None
+value_of Unsound = None
+value_of (EmptySet i) = Some i  -- K2: "it returns and leaves what 4 does"
 
 -- a refusal that a record gets by itself, "record (0 on insertion)", with the record's number in its file
 abbrev pub at_record : ℕ → Refusal → Refusal
@@ -50,3 +48,12 @@ at_record i NotInLayer = NotInLayer
 at_record i ShortBuffer = ShortBuffer
 at_record i Unsound = Unsound
 at_record i (EmptySet k) = EmptySet i
+
+-- "with ` at I` where the table has a record or pair"
+abbrev pub value_text : Option ℕ → List ℕ
+value_text None = []
+value_text (Some i) = 32 ∷ 97 ∷ 116 ∷ 32 ∷ decimal i
+
+-- "A refusal prints `refused N`, with ` at I` where the table has a record or pair."
+abbrev pub refusal_text : Refusal → List ℕ
+refusal_text r = 114 ∷ 101 ∷ 102 ∷ 117 ∷ 115 ∷ 101 ∷ 100 ∷ 32 ∷ (decimal (number_of r) ++ value_text (value_of r))

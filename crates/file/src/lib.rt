@@ -18,7 +18,8 @@ pub use records::{
 pub use refusals::{at_record, refusal_number, refusal_value};
 
 // "Causes of refusal" of all crates: definitions number_of and value_of give the document's number and value of each.
-#[derive(Clone, Copy)]
+// Whatever can be refused answers a Result with this error.
+#[derive(Clone, Copy, Debug, PartialEq, Eq)]
 pub enum Refusal {
     FileTooShort,
     TooManyRecords,
@@ -34,35 +35,14 @@ pub enum Refusal {
     EmptySet(usize),
 }
 
-// What a refusal returns beside its number: nothing, or the pair or record that it is about.
-#[derive(Clone, Copy)]
-pub enum RefusalValue {
-    Nothing,
-    At(usize),
-}
-
-// What checking a file's header and pairs finds.
-#[derive(Clone, Copy)]
-pub enum FileCheck {
-    Sound,
-    Refused(Refusal),
-}
-
-// Whether a call that makes something of records was accepted.
-#[derive(Clone, Copy)]
-pub enum Outcome {
-    Done,
-    Refused(Refusal),
-}
-
 // Where a record stands in the file.
-#[derive(Clone, Copy)]
-pub enum Place {
-    At { offset: usize, length: usize },
-    Refused(Refusal),
+#[derive(Clone, Copy, Debug, PartialEq, Eq)]
+pub struct Place {
+    pub offset: usize,
+    pub length: usize,
 }
 
-// A record's part of the file, empty where it is refused, with the answer beside it.
+// A record's part of the file, and where it stands.
 #[derive(Clone, Copy)]
 pub struct RecordPart<'a> {
     pub bytes: &'a [u8],
@@ -70,7 +50,7 @@ pub struct RecordPart<'a> {
 }
 
 // The qubits that a record involves (the source's InvolvedQubits); bit q of the mask is qubit q.
-#[derive(Clone, Copy)]
+#[derive(Clone, Copy, Debug, PartialEq, Eq)]
 pub enum InvolvedQubits {
     None,
     All,
@@ -79,7 +59,7 @@ pub enum InvolvedQubits {
 
 // The registers that a record involves (the source's InvolvedClassical), by name: a Set with the count of its entries, a
 // definition with its length.
-#[derive(Clone, Copy)]
+#[derive(Clone, Copy, Debug, PartialEq, Eq)]
 pub enum InvolvedClassical {
     None,
     All(u8),
@@ -89,25 +69,18 @@ pub enum InvolvedClassical {
 }
 
 // A key of a register map.
-#[derive(Clone, Copy)]
+#[derive(Clone, Copy, Debug, PartialEq, Eq)]
 pub struct RegisterKey {
     pub name: u8,
     pub index: u16,
 }
 
 // What a record says.
-#[derive(Clone, Copy)]
+#[derive(Clone, Copy, Debug, PartialEq, Eq)]
 pub struct Record {
     pub front: bool,
     pub kind: u8,
     pub label: u16,
     pub qubits: InvolvedQubits,
     pub classical: InvolvedClassical,
-}
-
-// What parsing a record finds.
-#[derive(Clone, Copy)]
-pub enum Parsed {
-    Record(Record),
-    Refused(Refusal),
 }

@@ -4,49 +4,39 @@ ghost use Rattle.file.specs.Pairs.{number_at};
 ghost use Rattle.file.specs.Records.{definition_rule, qubit_rule, entry_before, ascend_from, set_rule, tail_rule, parse_record, qubits_by, classical_of};
 ghost use Rattle.file.specs.Records.{key_at, front, label, form_of, register_form_of};
 
-use crate::pairs::{byte_at, field_at, read_u16, wide};
-use crate::{InvolvedClassical, InvolvedQubits, Parsed, Record, Refusal, RegisterKey};
+use crate::pairs::{byte_at, field_at, read_u16};
+use crate::{InvolvedClassical, InvolvedQubits, Record, Refusal, RegisterKey};
 
 // The longest register list.
 const MOST_ENTRIES: usize = 24;
-
-fn wide64(x: usize) -> u64
-    ensures { result ≡ x }
-{
-    x as u64
-}
 
 // The mask, bytes 3 to 10.
 fn read_mask(s: &[u8]) -> u64
     requires { 14 ≤ length s.now }
     ensures { result ≡ number_at s.now 3 8 }
 {
-    let a = wide64(read_u16(s, 3));
-    let b = wide64(read_u16(s, 5));
-    let c = wide64(read_u16(s, 7));
-    let d = wide64(read_u16(s, 9));
-    a + b * 65536 + c * 4294967296 + d * 281474976710656
+    u64::from_le_bytes([s[3], s[4], s[5], s[6], s[7], s[8], s[9], s[10]])
 }
 
 // The kind byte, and what it asks of the two forms.
+#[tactic(auto, unfolding(crate::specs::Records::definition_rule))]
 fn kind_fits(kind: u8, qubits: u8, register: u8) -> bool
     ensures { result ≡ (leb kind 5 && definition_rule kind qubits register) }
 {
     match kind {
-        0 => register != 4,
         1..=4 => register == 4 && qubits == 0,
-        5 => register != 4,
+        0 | 5 => register != 4,
         _ => false,
     }
 }
 
 // The qubit form, and what it asks of the mask.
+#[tactic(auto, unfolding(crate::specs::Records::qubit_rule))]
 fn qubits_fit(form: u8, mask: u64) -> bool
     ensures { result ≡ qubit_rule form mask }
 {
     match form {
-        0 => mask == 0,
-        1 => mask == 0,
+        0 | 1 => mask == 0,
         2 => true,
         _ => false,
     }
@@ -81,12 +71,8 @@ fn is_ascending(s: &[u8], c: usize) -> bool
     requires { (c < 256) × (15 + 3 * c ≤ length s.now) }
     ensures { result ≡ ascend_from (c - 1) 0 s.now }
 {
-    let mut k: usize = 0;
-    while k + 1 < c {
-        let next = entry_before(s, k);
-        if next {
-            k = k + 1;
-        } else {
+    for k in 1..c {
+        if !entry_before(s, k - 1) {
             return false;
         }
     }
@@ -101,7 +87,7 @@ fn is_set(s: &[u8]) -> bool
     if s.len() < 15 {
         return false;
     }
-    let c = wide(s[14]);
+    let c = usize::from(s[14]);
     if s.len() != 15 + 3 * c {
         return false;
     }
@@ -112,6 +98,7 @@ fn is_set(s: &[u8]) -> bool
 }
 
 // The register form, and what it asks of the tail.
+#[tactic(auto, unfolding(crate::specs::Records::tail_rule))]
 fn tail_fits(s: &[u8]) -> bool
     requires { 14 ≤ length s.now }
     ensures { result ≡ tail_rule s.now }
@@ -120,8 +107,7 @@ fn tail_fits(s: &[u8]) -> bool
     let form = s[11];
     match form {
         0 => size == 14,
-        1 => size == 15,
-        2 => size == 15,
+        1 | 2 => size == 15,
         3 => is_set(s),
         4 => size == 17,
         _ => false,
@@ -129,6 +115,7 @@ fn tail_fits(s: &[u8]) -> bool
 }
 
 // The qubits of a record whose form fits its mask.
+#[tactic(auto, unfolding(crate::specs::Records::qubits_by))]
 fn involved_qubits(form: u8, mask: u64) -> InvolvedQubits
     ensures { result ≡ qubits_by form mask }
 {
@@ -140,6 +127,7 @@ fn involved_qubits(form: u8, mask: u64) -> InvolvedQubits
 }
 
 // The registers that a record involves, of any bytes: a byte past the end counts as 0.
+#[tactic(auto, unfolding(crate::specs::Records::classical_of))]
 pub fn involved_classical(part: &[u8]) -> InvolvedClassical
     ensures { result ≡ classical_of part.now }
 {
@@ -152,41 +140,41 @@ pub fn involved_classical(part: &[u8]) -> InvolvedClassical
         1 => InvolvedClassical::All(byte_at(part, 14)),
         2 => InvolvedClassical::AllQubits(byte_at(part, 14)),
         3 => InvolvedClassical::Set(byte_at(part, 14)),
-        _ => InvolvedClassical::Definition(byte_at(part, 14), field_at(part, 15) as u16),
+        _ => InvolvedClassical::Definition(byte_at(part, 14), field_at(part, 15)),
     }
 }
 
 // A record by its bytes alone, or cause 4, then 12; the caller knows which record of its file it is.
-pub fn parse_record(part: &[u8]) -> Parsed
+pub fn parse_record(part: &[u8]) -> Result<Record, Refusal>
     ensures { result ≡ parse_record part.now }
 {
     if part.len() < 14 {
-        return Parsed::Refused(Refusal::BadRecord(0));
+        return Err(Refusal::BadRecord(0));
     }
     let end = part[0];
     if 1 < end {
-        return Parsed::Refused(Refusal::BadRecord(0));
+        return Err(Refusal::BadRecord(0));
     }
     let kind = part[1];
     let form = part[2];
     if !kind_fits(kind, form, part[11]) {
-        return Parsed::Refused(Refusal::BadRecord(0));
+        return Err(Refusal::BadRecord(0));
     }
     let mask = read_mask(part);
     if !qubits_fit(form, mask) {
-        return Parsed::Refused(Refusal::BadRecord(0));
+        return Err(Refusal::BadRecord(0));
     }
     if !tail_fits(part) {
-        return Parsed::Refused(Refusal::BadRecord(0));
+        return Err(Refusal::BadRecord(0));
     }
-    let label = read_u16(part, 12) as u16;
+    let label = field_at(part, 12);
     let qubits = involved_qubits(form, mask);
     let classical = involved_classical(part);
     // Behind the fields: behind six tests the compiler would take the calls above for rare and not inline them.
     if is_empty_set(form, mask) {
-        return Parsed::Refused(Refusal::EmptySet(0));
+        return Err(Refusal::EmptySet(0));
     }
-    Parsed::Record(Record {
+    Ok(Record {
         front: end == 1,
         kind,
         label,
@@ -206,7 +194,7 @@ pub fn is_front(part: &[u8]) -> bool
 pub fn record_label(part: &[u8]) -> u16
     ensures { result ≡ label part.now }
 {
-    field_at(part, 12) as u16
+    field_at(part, 12)
 }
 
 // The qubit form's number.
@@ -246,6 +234,6 @@ pub fn register_key(part: &[u8], k: usize) -> RegisterKey
     }
     RegisterKey {
         name: part[15 + 3 * k],
-        index: field_at(part, 16 + 3 * k) as u16,
+        index: field_at(part, 16 + 3 * k),
     }
 }

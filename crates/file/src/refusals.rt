@@ -1,8 +1,25 @@
 // "Causes of refusal": the document's number and value of each cause.
-ghost use Rattle.std.specs.Prelude.{◌≡◌};
-ghost use Rattle.file.specs.Refusals.{number_of, value_of, at_record};
+ghost use Rattle.std.specs.Prelude.{◌≡◌, Some};
+ghost use Rattle.file.specs.Refusals.{number_of, value_of, at_record, refusal_text};
 
-use crate::{Refusal, RefusalValue};
+use crate::Refusal;
+use std::error::Error;
+use std::fmt;
+
+// "`refused N`, with ` at I` where the table has a record or pair"
+impl fmt::Display for Refusal {
+    ghost output = { λ r. Some (refusal_text r) };
+
+    fn fmt<W: fmt::Write>(&self, f: &mut fmt::Formatter<W>) -> fmt::Result {
+        write!(f, "refused {}", refusal_number(*self))?;
+        if let Some(i) = refusal_value(*self) {
+            write!(f, " at {i}")?;
+        }
+        Ok(())
+    }
+}
+
+impl Error for Refusal {}
 
 // The number of a cause, 1 to 12.
 pub fn refusal_number(r: Refusal) -> u8
@@ -25,22 +42,22 @@ pub fn refusal_number(r: Refusal) -> u8
 }
 
 // The pair or record that a cause returns beside its number.
-pub fn refusal_value(r: Refusal) -> RefusalValue
+pub fn refusal_value(r: Refusal) -> Option<usize>
     ensures { result ≡ value_of r }
 {
     match r {
-        Refusal::FileTooShort => RefusalValue::Nothing,
-        Refusal::TooManyRecords => RefusalValue::Nothing,
-        Refusal::BadPair(i) => RefusalValue::At(i),
-        Refusal::BadRecord(i) => RefusalValue::At(i),
-        Refusal::TooManyNodes => RefusalValue::At(0),
-        Refusal::TooManyEdges(i) => RefusalValue::At(i),
-        Refusal::TooManyRegisters(i) => RefusalValue::At(i),
-        Refusal::Absent => RefusalValue::Nothing,
-        Refusal::NotInLayer => RefusalValue::Nothing,
-        Refusal::ShortBuffer => RefusalValue::Nothing,
-        Refusal::Unsound => RefusalValue::Nothing,
-        Refusal::EmptySet(i) => RefusalValue::At(i),
+        Refusal::BadPair(i) => Some(i),
+        Refusal::BadRecord(i)
+        | Refusal::TooManyEdges(i)
+        | Refusal::TooManyRegisters(i)
+        | Refusal::EmptySet(i) => Some(i),
+        Refusal::TooManyNodes => Some(0),
+        Refusal::FileTooShort
+        | Refusal::TooManyRecords
+        | Refusal::Absent
+        | Refusal::NotInLayer
+        | Refusal::ShortBuffer
+        | Refusal::Unsound => None,
     }
 }
 
@@ -49,17 +66,10 @@ pub fn at_record(i: usize, r: Refusal) -> Refusal
     ensures { result ≡ at_record i r }
 {
     match r {
-        Refusal::FileTooShort => Refusal::FileTooShort,
-        Refusal::TooManyRecords => Refusal::TooManyRecords,
-        Refusal::BadPair(k) => Refusal::BadPair(k),
         Refusal::BadRecord(_) => Refusal::BadRecord(i),
-        Refusal::TooManyNodes => Refusal::TooManyNodes,
         Refusal::TooManyEdges(_) => Refusal::TooManyEdges(i),
         Refusal::TooManyRegisters(_) => Refusal::TooManyRegisters(i),
-        Refusal::Absent => Refusal::Absent,
-        Refusal::NotInLayer => Refusal::NotInLayer,
-        Refusal::ShortBuffer => Refusal::ShortBuffer,
-        Refusal::Unsound => Refusal::Unsound,
         Refusal::EmptySet(_) => Refusal::EmptySet(i),
+        other => other,
     }
 }

@@ -2,10 +2,9 @@
 // Each distinct answer is printed with how often it came; tools/file_answers.py prints the same from the documents alone.
 #![tactic(auto)]
 
-ghost use Rattle.std.specs.Prelude.{◌≡◌, ◌<◌, ◌≤◌};
-ghost use Rattle.file.specs.Pairs.{Part, locate_record};
+ghost use Rattle.std.specs.Prelude.{◌<◌, ◌≤◌};
 
-use file::{FileCheck, Parsed, Place, RecordPart, Refusal, RefusalValue};
+use file::{Place, Refusal};
 use std::io;
 
 // Seven records, of each register form, at both ends.
@@ -24,74 +23,41 @@ const SLACK: [u8; 72] = [
     0, 0, 0, 0, 0, 0, 0, 0, 0, 0, 0, 0, 0, 255, 255, 255, 255,
 ];
 
-// The bytes of a record that was read.
-fn bytes_of<'a>(part: RecordPart<'a>) -> &'a [u8]
-    ensures { result ≡ part.entry.bytes }
-{
-    part.bytes
-}
-
-// Record i, by the record reader.
-fn read_bytes<'a>(file: &'a [u8], i: usize) -> &'a [u8]
-    ensures { Part file.entry result (locate_record file.now i) }
-{
-    bytes_of(file::read_record(file, i))
+// Record i's bytes, by the record reader; none where it refuses.
+fn read_bytes(file: &[u8], i: usize) -> &[u8] {
+    match file::read_record(file, i) {
+        Ok(part) => part.bytes,
+        Err(_) => &file[..0],
+    }
 }
 
 // The first refusal in checking a file and parsing its records in order.
-fn parse_all(file: &[u8]) -> FileCheck {
-    let found = file::check_file(file);
-    match found {
-        FileCheck::Refused(r) => FileCheck::Refused(r),
-        FileCheck::Sound => parse_records(file),
-    }
-}
-
-fn parse_records(file: &[u8]) -> FileCheck {
-    let n = file::record_count(file);
-    let mut k: usize = 0;
-    while k < n {
-        let parsed = file::parse_record(read_bytes(file, k));
-        if let Parsed::Refused(cause) = parsed {
-            return FileCheck::Refused(file::at_record(k, cause));
+fn parse_all(file: &[u8]) -> Result<(), Refusal> {
+    file::check_file(file)?;
+    for k in 0..file::record_count(file) {
+        if let Err(cause) = file::parse_record(read_bytes(file, k)) {
+            return Err(file::at_record(k, cause));
         }
-        k += 1;
     }
-    FileCheck::Sound
+    Ok(())
 }
 
 // Reading record i.
-fn read(file: &[u8], i: usize) -> FileCheck {
-    let place = file::locate_record(file, i);
-    match place {
-        Place::Refused(r) => FileCheck::Refused(r),
-        Place::At {
-            offset: _,
-            length: _,
-        } => FileCheck::Sound,
-    }
-}
-
-fn wide(x: u8) -> usize
-    ensures { result < 256 }
-{
-    x as usize
+fn read(file: &[u8], i: usize) -> Result<(), Refusal> {
+    file::locate_record(file, i).map(|_| ())
 }
 
 // A slot for each answer on files of seven records: 0 for acceptance, else 8 times the number plus the pair or record, 7 where
 // there is none.
-fn slot(answer: FileCheck) -> usize
+fn slot(answer: Result<(), Refusal>) -> usize
     ensures { result < 104 }
 {
     match answer {
-        FileCheck::Sound => 0,
-        FileCheck::Refused(r) => {
-            let value = file::refusal_value(r);
-            let number = wide(file::refusal_number(r));
-            match value {
-                RefusalValue::Nothing => (number * 8 + 7) % 104,
-                RefusalValue::At(i) => (number * 8 + i % 8) % 104,
-            }
+        Ok(()) => 0,
+        Err(r) => {
+            let number = usize::from(file::refusal_number(r));
+            let value = file::refusal_value(r).map_or(7, |i| i % 8);
+            (number * 8 + value) % 104
         }
     }
 }
@@ -109,14 +75,12 @@ fn print_answer(rt: &impl Print, number: usize, at: usize) -> io::Result<()> {
 }
 
 fn print_counts(rt: &impl Print, counts: [u32; 104]) -> io::Result<()> {
-    let mut k: usize = 0;
-    while k < 104 {
+    for k in 0..104 {
         let times = counts[k];
         if times != 0 {
             print_answer(rt, k / 8, k % 8)?;
             println!(rt; ": {times}")?;
         }
-        k += 1;
     }
     Ok(())
 }
@@ -145,10 +109,8 @@ fn count_prefixes(parsed: bool, i: usize) -> [u32; 104] {
     let file = GOOD;
     let mut counts = [0u32; 104];
     let start: usize = 0;
-    let mut n: usize = 0;
-    while n <= 141 {
+    for n in 0..=141 {
         count_one(&mut counts, answer_of(&file[start..n], parsed, i));
-        n += 1;
     }
     counts
 }
@@ -166,10 +128,8 @@ fn count_change(at: usize, b: u8, parsed: bool, counts: &mut [u32; 104])
 
 fn count_changes(parsed: bool) -> [u32; 104] {
     let mut counts = [0u32; 104];
-    let mut k: usize = 0;
-    while k < 36096 {
+    for k in 0..36096 {
         count_change(k / 256, (k % 256) as u8, parsed, &mut counts);
-        k += 1;
     }
     counts
 }
@@ -180,12 +140,10 @@ fn zero_records(n: usize) -> [u8; 9237]
 {
     let mut file = [0u8; 9237];
     writing::put_u16(&mut file, 0, n as u16);
-    let mut k: usize = 0;
-    while k < n {
+    for k in 0..n {
         let offset = 2 + 4 * n + 14 * k;
         writing::put_u16(&mut file, 2 + 4 * k, offset as u16);
         writing::put_u16(&mut file, 4 + 4 * k, 14);
-        k += 1;
     }
     file
 }
@@ -200,44 +158,23 @@ fn entry_list(c: u8, n: usize, length: u8) -> [u8; 99]
     file[4] = length;
     file[17] = 3;
     file[20] = c;
-    let mut k: usize = 0;
-    while k < n {
+    for k in 0..n {
         file[21 + 3 * k] = 1;
         file[22 + 3 * k] = k as u8;
-        k += 1;
     }
     file
 }
 
 // One line: what it is, then the answer to the first n bytes.
 fn print_limit(rt: &impl Print, title: &[u8], bytes: &[u8], n: usize) -> io::Result<()> {
-    let start: usize = 0;
-    if bytes.len() < n {
+    let Some(file) = bytes.get(..n) else {
         return Ok(());
-    }
-    let file = &bytes[start..n];
+    };
     rt.write_all(title)?;
-    print!(rt; ": ")?;
-    let answer = parse_all(file);
-    match answer {
-        FileCheck::Sound => {
-            print!(rt; "accepted")?;
-        }
-        FileCheck::Refused(r) => print_refusal(rt, r)?,
+    match parse_all(file) {
+        Ok(()) => println!(rt; ": accepted"),
+        Err(r) => println!(rt; ": {r}"),
     }
-    println!(rt)
-}
-
-fn print_refusal(rt: &impl Print, r: Refusal) -> io::Result<()> {
-    print!(rt; "refused {}", file::refusal_number(r))?;
-    let value = file::refusal_value(r);
-    match value {
-        RefusalValue::Nothing => {}
-        RefusalValue::At(i) => {
-            print!(rt; " at {i}")?;
-        }
-    }
-    Ok(())
 }
 
 fn print_limits(rt: &impl Print) -> io::Result<()> {
@@ -268,10 +205,8 @@ fn print_byte(rt: &impl Print, b: u8) -> io::Result<()> {
 fn print_record(rt: &impl Print, file: &[u8], i: usize) -> io::Result<()> {
     let part = read_bytes(file, i);
     print!(rt; "record {i}:")?;
-    let mut k: usize = 0;
-    while k < part.len() {
+    for k in 0..part.len() {
         print_byte(rt, part[k])?;
-        k += 1;
     }
     println!(rt)
 }
@@ -279,10 +214,8 @@ fn print_record(rt: &impl Print, file: &[u8], i: usize) -> io::Result<()> {
 // Every record of the good file, and the one after the last.
 fn print_records(rt: &impl Print) -> io::Result<()> {
     let file = GOOD;
-    let mut i: usize = 0;
-    while i < 8 {
+    for i in 0..8 {
         print_record(rt, &file, i)?;
-        i += 1;
     }
     Ok(())
 }
@@ -354,10 +287,10 @@ fn print_place(rt: &impl Print, file: &[u8], i: usize) -> io::Result<()> {
     print!(rt; "  record {i}: ")?;
     let place = file::locate_record(file, i);
     match place {
-        Place::At { offset, length } => {
+        Ok(Place { offset, length }) => {
             print!(rt; "{length} bytes from {offset} on")?;
         }
-        Place::Refused(r) => print_refusal(rt, r)?,
+        Err(r) => print!(rt; "{r}")?,
     }
     println!(rt)
 }

@@ -10,6 +10,8 @@ use lib.Dec.{eqb, ltb}
 use lib.ListN.{length, get_or, replicate, length-map}
 use borrow.Author.Tests.{eqb-true, ltb-true, lt-ltb}
 use Rattle.file.specs.Lists.{any_of, all_of, keep, distinct, count_from, up_to, marked_from, member, members}
+use Rattle.std.specs.List.{list_any, list_all, range_with_len}
+use Rattle.std.proofs.lemmas.List.Recursion.{same_from_clauses}
 use Rattle.file.proofs.PutLaws.{length-count_from}
 use Rattle.file.proofs.BoolLaws.{bool_cases, clash_bool, not-true, not-false, bool_ext, eqb_same, and_l, and_r, and_intro, or_inl, or_inr}
 
@@ -20,6 +22,14 @@ all_same (suc k) zero d = refl
 all_same (suc k) (suc i) d = all_same k i d
 
 -- ---- one entry at the front
+
+or_step : (b c : Bool) → elim b [ true ↦ true | false ↦ c ] ≡ (b || c)
+or_step true c = refl
+or_step false c = refl
+
+and_step : (b c : Bool) → elim b [ true ↦ c | false ↦ false ] ≡ (b && c)
+and_step true c = refl
+and_step false c = refl
 
 module _ {A : Type 0} where
   pub any_here : (p : A → Bool) (x : A) (l : List A) → p x ≡ true → any_of p (x ∷ l) ≡ true
@@ -38,6 +48,10 @@ module _ {A : Type 0} where
   unfolding all_of
   all_fails p x l e = rw (e, all_of)
 
+  pub all_first : (p : A → Bool) (x : A) (l : List A) → all_of p (x ∷ l) ≡ (p x && all_of p l)
+  unfolding all_of
+  all_first p x l = and_step (p x) (all_of p l)
+
   pub distinct_here : (s : A → A → Bool) (x : A) (l : List A) → any_of (s x) l ≡ false → distinct s (x ∷ l) ≡ distinct s l
   unfolding distinct
   distinct_here s x l e = rw (e, distinct)
@@ -54,6 +68,16 @@ module _ {A : Type 0} where
 
   pub distinct-rest : (s : A → A → Bool) (x : A) (l : List A) → distinct s (x ∷ l) ≡ true → distinct s l ≡ true
   distinct-rest s x l h = sym (distinct_here s x l (distinct_first s x l h)) ∙ h
+
+  -- ---- std's words for the two
+
+  pub any_listed : (p : A → Bool) (l : List A) → any_of p l ≡ list_any p l
+  unfolding any_of
+  any_listed p l = same_from_clauses (any_of p) (list_any p) (λ x b. p x || b) refl (λ x xs. or_step (p x) (any_of p xs)) (λ x xs. refl) l
+
+  pub all_listed : (p : A → Bool) (l : List A) → all_of p l ≡ list_all p l
+  unfolding all_of
+  all_listed p l = same_from_clauses (all_of p) (list_all p) (λ x b. p x && b) refl (all_first p) (λ x xs. refl) l
 
   -- ---- some entry passes
 
@@ -154,9 +178,6 @@ module _ {A : Type 0} where
       let r = any_at p (map f (up_to n)) (f 0) h in
       let k : r.0 < n = omega (arith, r.1, length-up_to f n) in
       (r.0, k, sym (ap p (up_to-at f n r.0 (f 0) k)) ∙ r.2)
-
-  pub none-up_to : (p : A → Bool) (f : ℕ → A) (n : ℕ) → any_of p (map f (up_to n)) ≡ false → (i : ℕ) → i < n → p (f i) ≡ false
-  none-up_to p f n h i k = not-true (λ e. clash_bool (up_to-any p f n i k e) h)
 
   pub up_to-none : (p : A → Bool) (f : ℕ → A) (n : ℕ) → ((i : ℕ) → i < n → p (f i) ≡ false) → any_of p (map f (up_to n)) ≡ false
   up_to-none p f n h = not-true (λ e. let r = any-up_to p f n e in clash_bool r.2 (h r.0 r.1))
@@ -288,9 +309,6 @@ module _ {A : Type 0} where
 
   -- ---- equal tests, equal entries
 
-  pub any_ext : (p q : A → Bool) (l : List A) → ((x : A) → p x ≡ q x) → any_of p l ≡ any_of q l
-  any_ext p q l h = ap (λ (f : A → Bool). any_of f l) (λ i x. h x i)
-
   pub all_ext : (p q : A → Bool) (l : List A) → ((x : A) → p x ≡ q x) → all_of p l ≡ all_of q l
   all_ext p q l h = ap (λ (f : A → Bool). all_of f l) (λ i x. h x i)
 
@@ -351,6 +369,50 @@ module _ {A : Type 0} where
       ∙ (λ i. sym (distinct_here s y l e) i && not (sym (any-later (λ y. s y x) y l u) i)))
       (bool_cases (s y x)))
       (bool_cases (any_of (s y) l))
+
+-- ---- the same of `map f (up_to i)`, as a loop goes on
+
+module _ {A : Type 0} where
+  pub all_none : (p : A → Bool) (f : ℕ → A) → all_of p (map f (up_to 0)) ≡ true
+  all_none p f = up_to_all p f 0 (λ i k. absurd (omega arith))
+
+  pub all_grows : (p : A → Bool) (f : ℕ → A) (i : ℕ) → all_of p (map f (up_to (i + 1))) ≡ (all_of p (map f (up_to i)) && p (f i))
+  all_grows p f i = ap (all_of p) (up_to-suc f i) ∙ all_snoc p (map f (up_to i)) (f i)
+
+  pub distinct_none : (s : A → A → Bool) (f : ℕ → A) → distinct s (map f (up_to 0)) ≡ true
+  distinct_none s f = up_to-distinct s f 0 (λ i j a k. absurd (omega arith))
+
+  pub distinct_grows : (s : A → A → Bool) (f : ℕ → A) (i : ℕ) → distinct s (map f (up_to i)) ≡ true
+      → any_of (λ y. s y (f i)) (map f (up_to i)) ≡ false → distinct s (map f (up_to (i + 1))) ≡ true
+  distinct_grows s f i d e = ap (distinct s) (up_to-suc f i) ∙ distinct_snoc s (map f (up_to i)) (f i) ∙ rw (d, e) refl
+
+  pub distinct_broken : (s : A → A → Bool) (f : ℕ → A) (n i : ℕ) → i < n → any_of (λ y. s y (f i)) (map f (up_to i)) ≡ true
+      → distinct s (map f (up_to n)) ≡ false
+  distinct_broken s f n i k e = not-true (λ h.
+      let r = any-up_to (λ y. s y (f i)) f i e in
+      clash_bool r.2 (distinct-up_to s f n h r.0 i r.1 k))
+
+-- a range of numbers, in std's words
+ranged : (n k : ℕ) → count_from n k ≡ range_with_len k n
+unfolding count_from
+ranged zero k = refl
+ranged (suc n) k = ap (λ (l : List ℕ). k ∷ l) (ranged n (k + 1))
+
+any_mapped : {A : Type 0} (p : A → Bool) (f : ℕ → A) (l : List ℕ) → list_any p (map f l) ≡ list_any (λ i. p (f i)) l
+any_mapped p f [] = refl
+any_mapped p f (i ∷ l) = ap (λ (b : Bool). p (f i) || b) (any_mapped p f l)
+
+all_mapped : {A : Type 0} (p : A → Bool) (f : ℕ → A) (l : List ℕ) → list_all p (map f l) ≡ list_all (λ i. p (f i)) l
+all_mapped p f [] = refl
+all_mapped p f (i ∷ l) = ap (λ (b : Bool). p (f i) && b) (all_mapped p f l)
+
+-- what `all` answers over a range
+pub all_ranged : {A : Type 0} (p : A → Bool) (f : ℕ → A) (n : ℕ) → list_all (λ i. p (f i)) (range_with_len 0 n) ≡ all_of p (map f (up_to n))
+all_ranged p f n = ap (list_all (λ i. p (f i))) (sym (ranged n 0)) ∙ sym (all_mapped p f (up_to n)) ∙ sym (all_listed p (map f (up_to n)))
+
+-- what `any` answers over a range
+pub any_ranged : {A : Type 0} (p : A → Bool) (f : ℕ → A) (n : ℕ) → list_any (λ i. p (f i)) (range_with_len 0 n) ≡ any_of p (map f (up_to n))
+any_ranged p f n = ap (list_any (λ i. p (f i))) (sym (ranged n 0)) ∙ sym (any_mapped p f (up_to n)) ∙ sym (any_listed p (map f (up_to n)))
 
 -- a number is in the list of the numbers below n exactly where it is below n
 pub any-numbers : (p : ℕ → Bool) (n : ℕ) → any_of p (map (λ (i : ℕ). i) (up_to n)) ≡ any_of p (up_to n)

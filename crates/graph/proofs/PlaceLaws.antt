@@ -43,6 +43,3 @@ back_told z f h =
 -- a place that was read from memory is what stands there
 pub place_read : (z : ℤ) → mag z < 32768 → to_z w16 (of_z w16 z) ≡ z
 place_read z h = to_z-of_z w16 z (record { sfits = h })
-
-pub order_read : (a b : ℤ) → mag a < 32768 → mag b < 32768 → lt_z (to_z w16 (of_z w16 a)) (to_z w16 (of_z w16 b)) ≡ lt_z a b
-order_read a b h k = λ t. lt_z (place_read a h t) (place_read b k t)

@@ -74,10 +74,10 @@ and3 a b c h = let p = and_l (a && b) c h in (and_l a b p, and_r a b p, and_r (a
 pub and3_intro : (a b c : Bool) → a ≡ true → b ≡ true → c ≡ true → (a && b && c) ≡ true
 and3_intro a b c p q r = rw (p, q, r)
 
-and4 : (a b c d : Bool) → (a && b && c && d) ≡ true → (a ≡ true) × (b ≡ true) × (c ≡ true) × (d ≡ true)
+pub and4 : (a b c d : Bool) → (a && b && c && d) ≡ true → (a ≡ true) × (b ≡ true) × (c ≡ true) × (d ≡ true)
 and4 a b c d h = let p = and3 a b c (and_l (a && b && c) d h) in (p.0, p.1, p.2, and_r (a && b && c) d h)
 
-and5 : (a b c d e : Bool) → (a && b && c && d && e) ≡ true → (a ≡ true) × (b ≡ true) × (c ≡ true) × (d ≡ true) × (e ≡ true)
+pub and5 : (a b c d e : Bool) → (a && b && c && d && e) ≡ true → (a ≡ true) × (b ≡ true) × (c ≡ true) × (d ≡ true) × (e ≡ true)
 and5 a b c d e h = let p = and4 a b c d (and_l (a && b && c && d) e h) in (p.0, p.1, p.2, p.3, and_r (a && b && c && d) e h)
 
 -- every clause holds

@@ -1,7 +1,9 @@
 -- "A handed-in graph is sound if": the clauses in the document's order. Assumes nothing.
-use Rattle.std.specs.Prelude.{Bool, true, not, ◌&&◌, ◌||◌, List, [], ◌∷◌, ◌++◌, map, ℕ, ◌+◌, ltb, leb, eqb, ℤ, pos, negsuc}
+use Rattle.std.specs.Prelude.{Bool, true, cond, not, ◌&&◌, ◌||◌, List, [], ◌∷◌, ◌++◌, map, ℕ, ◌+◌, ◌≤◌, ltb, leb, eqb, ℤ, pos, negsuc, Result, Ok, Err, ⊤}
 use Rattle.std.specs.Int.Signed.{lt_z, le_z}
 use Rattle.file.specs.Lists.{any_of, all_of, distinct, members}
+use Rattle.file.specs.declared.Refusal.{Refusal}
+use Rattle.file.specs.declared.Refusal.TheVariants.{Unsound}
 use Rattle.graph.specs.declared.End.{End}
 use Rattle.graph.specs.declared.Registers.{Registers}
 use Rattle.graph.specs.declared.CircuitDag.{CircuitDag}
@@ -85,3 +87,15 @@ first_block_rule g = all_of (λ (v : ℕ). operation_at g v && not (any_of (λ (
 unfoldable pub sound : CircuitDag → Bool
 sound g = counts_fit g && ends_add_up g && numbers_below g && name_operations g && places_rule g && commuting_ascends g
     && (keys_distinct g.first_registers && keys_distinct g.last_registers) && edges_rule g && first_block_rule g
+
+-- "512 nodes, 2,048 edges and 256 entries in each register map": what the counts of a sound graph keep to
+pub record Counts (g : CircuitDag) : Type 0 where
+  pub nodes : g.nodes.count ≤ 512
+  pub edges : g.edges.count ≤ 2048
+  pub first : g.first_registers.count ≤ 256
+  pub last : g.last_registers.count ≤ 256
+  pub commuting : g.commuting.count ≤ 512
+
+-- "11, graph isn't sound": what a query on a handed-in graph begins with
+abbrev pub check_sound : CircuitDag → Result ⊤ Refusal
+check_sound g = cond (sound g) (Ok tt) (Err Unsound)

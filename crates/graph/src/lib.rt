@@ -2,22 +2,24 @@
 // Every array holds plain numbers, so that a part of the graph can be lent to a function in place.
 #![tactic(auto)]
 
+pub mod checking;
 pub mod sets;
 pub mod soundness;
 
 ghost use Rattle.std.specs.Prelude.{◌≡◌};
 ghost use Rattle.graph.specs.Dag.{no_end, no_registers, empty};
 
+pub use checking::check_sound;
 pub use sets::{has_member, members_below, no_marks};
-pub use soundness::{is_before, is_register_map, is_sound};
+pub use soundness::{is_register_map, is_sound};
 
 // A node number (the source's NodeIndex); 65535 where there is none.
 #[repr(C)]
-#[derive(Clone, Copy)]
+#[derive(Clone, Copy, Debug, PartialEq, Eq)]
 pub struct NodeIndex(pub u16);
 
 // A qubit number, 0 to 63.
-#[derive(Clone, Copy)]
+#[derive(Clone, Copy, Debug, PartialEq, Eq)]
 pub struct Qubit(pub u8);
 
 // What each node keeps, at its number.

@@ -13,14 +13,7 @@ pub fn no_marks() -> [bool; 512]
 pub fn has_member(marks: [bool; 512]) -> bool
     ensures { result ≡ any_of (λ (b : Bool). b) marks }
 {
-    let mut v: usize = 0;
-    while v < 512 {
-        if marks[v] {
-            return true;
-        }
-        v += 1;
-    }
-    false
+    marks.iter().any(|mark| *mark)
 }
 
 // Whether its nodes are all below n. No branch on a mark, so that the compiler takes many at a time.
@@ -28,10 +21,8 @@ pub fn members_below(marks: [bool; 512], n: usize) -> bool
     ensures { result ≡ all_of (λ (v : ℕ). ltb v n) (members marks) }
 {
     let mut above = false;
-    let mut v: usize = n;
-    while v < 512 {
-        above = above | marks[v];
-        v += 1;
+    for mark in &marks[n.min(512)..] {
+        above |= *mark;
     }
     !above
 }

@@ -1,153 +1,175 @@
-// Is a handed-in graph sound: one pass over each part, but where the order of its edges or register keys does not show that they are distinct
-// (docs/SPEED.md, "Handed-in graphs in the worst order").
-ghost use Rattle.std.specs.Prelude.{◌≡◌, true, false, cond, not, ◌&&◌, ◌||◌, ◌∷◌, map, ℕ, ◌+◌, ◌*◌, ◌/◌, ◌%◌, ◌^◌, ◌≤◌, ◌<◌, ltb, leb, eqb, ℤ, pos, length, get_or, take, replicate};
-ghost use Rattle.std.specs.Int.Signed.{mag, non_neg, lt_z};
-ghost use Rattle.file.specs.Lists.{any_of, all_of, distinct, up_to, members};
-ghost use Rattle.graph.specs.Dag.{Edge, Entry, edge_at, entry_at, entry, same_edge, same_key};
-ghost use Rattle.graph.specs.Soundness.{named, if_present, same_place, ascends, keys_distinct, register_map_rule, sound};
+// Is a handed-in graph sound: one pass over each part, but where the order of its edges or register keys does not show
+// that they are distinct (docs/SPEED.md, "Handed-in graphs in the worst order").
+ghost use Rattle.std.specs.Prelude.{◌≡◌, true, false, cond, ◌&&◌, ◌||◌, ℕ, ◌+◌, ◌*◌, ◌/◌, ◌%◌, ◌^◌, ◌≤◌, ◌<◌, ltb, eqb, get_or};
+ghost use Rattle.file.specs.Lists.{all_of, members};
+ghost use Rattle.graph.specs.Dag.{edge, size};
+ghost use Rattle.graph.specs.Soundness.{if_present, ascends, keys_distinct, counts_fit, ends_add_up, register_map_rule, sound};
+ghost use Rattle.graph.specs.Checks.{operation_in, operates, slot_answer, places_fit, edge_fits, edges_fit, edges_differ, low_edge, end_fits, commuting_fits, key_number, is_repeated, entries_fit, parts_fit};
 
-use crate::sets::{members_below, no_marks};
-use crate::{CircuitDag, Commuting, Edges, End, NodeIndex, Registers};
+use crate::sets::members_below;
+use crate::{CircuitDag, Commuting, Edges, End, Registers};
 
 // The counts are within the limits, and the ends add up to the nodes.
-fn counts_fit(
-    nodes: usize,
-    edges: usize,
-    first: usize,
-    last: usize,
-    commuting: usize,
-    backs: usize,
-    fronts: usize,
-) -> bool
-    ensures { result ≡ (leb nodes 512 && leb edges 2048 && leb first 256 && leb last 256 && leb commuting 512
-        && eqb (backs + fronts) nodes) }
+fn counts_fit(g: &CircuitDag) -> bool
+    ensures { result ≡ (counts_fit g.now && ends_add_up g.now) }
 {
-    if 512 < nodes {
-        return false;
-    }
-    if 2048 < edges {
-        return false;
-    }
-    if 256 < first {
-        return false;
-    }
-    if 256 < last {
-        return false;
-    }
-    if 512 < commuting {
-        return false;
-    }
-    if nodes < backs {
-        return false;
-    }
-    nodes - backs == fronts
+    g.nodes.count <= 512
+        && g.edges.count <= 2048
+        && g.first_registers.count <= 256
+        && g.last_registers.count <= 256
+        && g.commuting.count <= 512
+        && g.backs <= g.nodes.count
+        && g.nodes.count - g.backs == g.fronts
 }
 
-// x is a or b.
-fn is_either(x: u8, a: u8, b: u8) -> bool
-    ensures { result ≡ (eqb x a || eqb x b) }
-{
-    x == a || x == b
-}
-
-// A qubit operation: form All or Set, kind 0 or 5.
-fn is_operation(kind: u8, form: u8) -> bool
-    ensures { result ≡ ((eqb form 1 || eqb form 2) && (eqb kind 0 || eqb kind 5)) }
-{
-    if is_either(form, 1, 2) {
-        return is_either(kind, 0, 5);
-    }
-    false
-}
-
-// Which nodes are qubit operations.
-fn operations(kind: &[u8; 512], form: &[u8; 512]) -> [bool; 512]
-    requires { length form.now ≡ 512 }
-    ensures { (v : ℕ) → get_or result v false
-        ≡ ((eqb (get_or form.now v 0) 1 || eqb (get_or form.now v 0) 2)
-        && (eqb (get_or kind.now v 0) 0 || eqb (get_or kind.now v 0) 5)) }
-{
-    let mut op = [false; 512];
-    let mut v: usize = 0;
-    while v < 512 {
-        op[v] = is_operation(kind[v], form[v]);
-        v += 1;
-    }
-    op
-}
-
-// The place's number among those within the ends: back places from 0 up, then front places from -1 down; 512 for any other.
-fn slot_of(place: i16, backs: usize, fronts: usize) -> usize
+// The place's number among those within the ends: back places from 0 up, then front places from -1 down.
+fn slot_of(place: i16, backs: usize, fronts: usize) -> Option<usize>
     requires { backs + fronts ≤ 512 }
-    ensures { result ≡ cond (ltb (mag place) (cond (non_neg place) backs fronts))
-        (cond (non_neg place) (mag place) (backs + mag place)) 512 }
+    ensures { result ≡ slot_answer backs fronts place }
 {
     if place < 0 {
         let k = (!place) as usize;
-        if k < fronts {
-            return backs + k;
-        }
-        return 512;
+        (k < fronts).then_some(backs + k)
+    } else {
+        let k = place as usize;
+        (k < backs).then_some(k)
     }
-    let k = place as usize;
-    if k < backs {
-        return k;
-    }
-    512
 }
 
 // The places lie within the ends, and no two nodes have the same.
-fn places_fit(place: &[i16; 512], n: usize, backs: usize, fronts: usize) -> bool
-    requires { (n ≤ 512) × (backs + fronts ≡ n) }
-    ensures { result ≡ (distinct same_place (map (λ (v : ℕ). get_or place.now v (pos 0)) (up_to n))
-        && all_of (λ (p : ℤ). ltb (mag p) (cond (non_neg p) backs fronts))
-        (map (λ (v : ℕ). get_or place.now v (pos 0)) (up_to n))) }
+fn places_fit(g: &CircuitDag) -> bool
+    requires { (size g.now ≤ 512) × (g.now.backs + g.now.fronts ≡ size g.now) }
+    ensures { result ≡ places_fit g.now }
 {
     let mut taken = [false; 512];
-    let mut v: usize = 0;
-    while v < n {
-        let s = slot_of(place[v], backs, fronts);
-        if 512 <= s {
+    for place in &g.nodes.place[..g.nodes.count] {
+        let Some(s) = slot_of(*place, g.backs, g.fronts) else {
             return false;
-        }
+        };
         if taken[s] {
             return false;
         }
         taken[s] = true;
-        v += 1;
     }
     true
 }
 
-// Two places compared signed.
-pub fn is_before(a: i16, b: i16) -> bool
-    ensures { result ≡ lt_z a b }
+// A qubit operation: form All or Set, kind 0 or 5. No branch, so that the compiler takes many at a time.
+fn is_operation(kind: u8, form: u8) -> bool
+    ensures { result ≡ ((eqb form 1 || eqb form 2) && (eqb kind 0 || eqb kind 5)) }
 {
-    a < b
+    matches!(form, 1 | 2) & matches!(kind, 0 | 5)
 }
 
-// An edge joins two qubit operations of the graph and rises in place.
-fn edge_fits(from: NodeIndex, to: NodeIndex, n: usize, place: &[i16; 512], op: &[bool; 512]) -> bool
-    requires { n ≤ 512 }
-    ensures { result ≡ (ltb from.0 n && ltb to.0 n
-        && (get_or op.now from.0 false && get_or op.now to.0 false
-        && lt_z (get_or place.now from.0 (pos 0)) (get_or place.now to.0 (pos 0)))) }
-{
-    let f = from.0 as usize;
-    let t = to.0 as usize;
-    if n <= f {
-        return false;
+// A graph within the limits, with a mark at each qubit operation: what edges and ends are held against.
+#[derive(Drop)]
+struct Operations<'a> {
+    g: &'a CircuitDag,
+    marks: [bool; 512],
+    ghost few_nodes: { size g.now ≤ 512 },
+    ghost few_edges: { g.now.edges.count ≤ 2048 },
+    ghost known: { (v : ℕ) → get_or marks v false ≡ operation_in g.now.nodes v },
+}
+
+impl<'a> Operations<'a> {
+    // A loop and no array::from_fn: `search` stops at its limit on what 512 calls of the closure gave.
+    fn of(g: &'a CircuitDag) -> Operations<'a>
+        requires { (size g.now ≤ 512) × (g.now.edges.count ≤ 2048) }
+        ensures { result.g.now ≡ g.now }
+    {
+        let mut marks = [false; 512];
+        for v in 0..512 {
+            marks[v] = is_operation(g.nodes.kind[v], g.nodes.form[v]);
+        }
+        Operations { g, marks }
     }
-    if n <= t {
-        return false;
+
+    // x is a qubit operation of the graph.
+    fn has(&self, x: u16) -> bool
+        ensures { result ≡ operates self.now.g.now.nodes x }
+    {
+        let v = usize::from(x);
+        v < self.g.nodes.count && self.marks[v]
     }
-    if !op[f] {
-        return false;
+
+    // So is every member of a block of the graph. No branch on a mark.
+    fn has_all(&self, block: &[bool; 512]) -> bool
+        ensures { result ≡ all_of (operation_in self.now.g.now.nodes) (members block.now) }
+    {
+        let mut fit = true;
+        for (v, member) in block.iter().enumerate() {
+            fit &= !*member | self.marks[v];
+        }
+        fit
     }
-    if !op[t] {
-        return false;
+
+    // So is an entry that may be absent.
+    fn names(&self, x: u16) -> bool
+        ensures { result ≡ if_present (operates self.now.g.now.nodes) x }
+    {
+        x == 65535 || self.has(x)
     }
-    is_before(place[f], place[t])
+
+    // So are all entries of an end's map.
+    fn names_all(&self, node: &[u16; 64]) -> bool
+        ensures { result ≡ all_of (if_present (operates self.now.g.now.nodes)) node.now }
+    {
+        node.iter().all(|x| self.names(*x))
+    }
+
+    // An end names qubit operations of the graph, and its block holds nodes of the graph.
+    fn end_fits(&self, e: &End) -> bool
+        ensures { result ≡ end_fits self.now.g.now.nodes e.now }
+    {
+        self.names(e.all.0) && self.names_all(&e.node) && members_below(e.block, self.g.nodes.count)
+    }
+
+    // An edge joins two qubit operations of the graph, rises in place, and runs to no member of the first block.
+    fn edge_fits(&self, from: u16, to: u16) -> bool
+        ensures { result ≡ edge_fits self.now.g.now.nodes self.now.g.now.first.block (edge from to) }
+    {
+        let place = &self.g.nodes.place;
+        let (f, t) = (usize::from(from), usize::from(to));
+        self.has(from) && self.has(to) && place[f] < place[t] && !self.g.first.block[t]
+    }
+
+    // So does every edge.
+    fn edges_fit(&self) -> bool
+        ensures { result ≡ edges_fit self.now.g.now }
+    {
+        let es = &self.g.edges;
+        (0..es.count).all(|i| self.edge_fits(es.from[i], es.to[i]))
+    }
+
+    // Every edge fits and no two are the same, for edges of which those with one older end and direction come in the
+    // order of their newer ends, as insertion leaves them: a cell's stamp is the newer end of its last edge, plus 1.
+    // One pass with 2 KB of stamps; where it says no, the two slower ones of all_edges_fit decide.
+    fn edges_ascend(&self) -> bool
+        ensures { result ≡ true → (edges_fit self.now.g.now && edges_differ self.now.g.now.edges) ≡ true }
+    {
+        let es = &self.g.edges;
+        let mut stamps = [0u16; 1024];
+        for i in 0..es.count {
+            let (from, to) = (es.from[i], es.to[i]);
+            if !self.edge_fits(from, to) {
+                return false;
+            }
+            let cell = older_cell(from, to);
+            let stamp = from.max(to) + 1;
+            if stamp <= stamps[cell] {
+                return false;
+            }
+            stamps[cell] = stamp;
+        }
+        true
+    }
+
+    // Every edge fits and no two are the same. The edges of a built graph pass at the first look.
+    fn all_edges_fit(&self) -> bool
+        ensures { result ≡ (edges_fit self.now.g.now && edges_differ self.now.g.now.edges) }
+    {
+        self.edges_ascend() || (self.edges_fit() && edges_differ(&self.g.edges))
+    }
 }
 
 // Bit b of a word.
@@ -166,436 +188,160 @@ fn with_bit(word: u64, b: u32) -> u64
     word + (1u64 << b)
 }
 
-// Every edge fits and no two are the same, by a bit for each pair of nodes; into gets the targets.
-fn edges_fit(
-    es: Edges,
-    n: usize,
-    place: &[i16; 512],
-    op: &[bool; 512],
-    into: &mut [bool; 512],
-) -> bool
-    requires { (es.count ≤ 2048) × (n ≤ 512) × (into.old ≡ replicate 512 false) }
-    ensures { (result ≡ (distinct same_edge (map (edge_at es) (up_to es.count))
-        && all_of (λ (e : Edge). ltb e.from n && ltb e.to n
-        && (get_or op.now e.from false && get_or op.now e.to false
-        && lt_z (get_or place.now e.from (pos 0)) (get_or place.now e.to (pos 0))))
-        (map (edge_at es) (up_to es.count))))
-        × (result ≡ true → (v : ℕ) → get_or into.new v false
-        ≡ any_of (λ (e : Edge). eqb e.to v) (map (edge_at es) (up_to es.count))) }
+// A cell for the older node and the direction: different edges of one newer node have different cells.
+fn older_cell(from: u16, to: u16) -> usize
+    ensures { result ≡ cond (ltb to from) (2 * to + 1) (2 * from) }
+{
+    if to < from {
+        2 * usize::from(to) + 1
+    } else {
+        2 * usize::from(from)
+    }
+}
+
+// No two edges are the same, in any order, by a bit for each pair of nodes.
+fn edges_differ(es: &Edges) -> bool
+    requires { (es.now.count ≤ 2048) × ((i : ℕ) → i < es.now.count → low_edge es.now i) }
+    ensures { result ≡ edges_differ es.now }
 {
     let mut seen = [0u64; 4096];
-    let m = es.count;
-    let mut i: usize = 0;
-    while i < m {
-        let from = NodeIndex(es.from[i]);
-        let to = NodeIndex(es.to[i]);
-        if !edge_fits(from, to, n, place, op) {
-            return false;
-        }
-        let f = from.0 as usize;
-        let t = to.0 as usize;
-        let cell = f * 512 + t;
-        let word = seen[cell / 64];
+    for i in 0..es.count {
+        let cell = usize::from(es.from[i]) * 512 + usize::from(es.to[i]);
         let b = (cell % 64) as u32;
+        let word = seen[cell / 64];
         if has_bit(word, b) {
             return false;
         }
         seen[cell / 64] = with_bit(word, b);
-        into[t] = true;
-        i += 1;
     }
     true
-}
-
-// The larger number of an edge's two nodes, that of the node inserted later.
-fn newer_end(from: NodeIndex, to: NodeIndex) -> u16
-    ensures { result ≡ cond (ltb to.0 from.0) from.0 to.0 }
-{
-    if to.0 < from.0 {
-        return from.0;
-    }
-    to.0
-}
-
-// A cell for the older node and the direction: different edges of one newer node have different cells.
-fn older_cell(from: NodeIndex, to: NodeIndex) -> usize
-    requires { (from.0 < 512) × (to.0 < 512) }
-    ensures { result ≡ cond (ltb to.0 from.0) (2 * to.0 + 1) (2 * from.0) }
-{
-    if to.0 < from.0 {
-        return 2 * (to.0 as usize) + 1;
-    }
-    2 * (from.0 as usize)
-}
-
-// Every edge fits and no two are the same, for edges of which those with one older end and direction come in the order of
-// their newer ends, as insertion leaves them: a cell's stamp is the newer end of its last edge, plus 1. into gets the
-// targets. With 2 KB of stamps it is quicker than edges_fit, which decides where this says no.
-fn edges_fit_by_stamps(
-    es: Edges,
-    n: usize,
-    place: &[i16; 512],
-    op: &[bool; 512],
-    into: &mut [bool; 512],
-) -> bool
-    requires { (es.count ≤ 2048) × (n ≤ 512) × (into.old ≡ replicate 512 false) }
-    ensures { (result ≡ true → (distinct same_edge (map (edge_at es) (up_to es.count))
-        && all_of (λ (e : Edge). ltb e.from n && ltb e.to n
-        && (get_or op.now e.from false && get_or op.now e.to false
-        && lt_z (get_or place.now e.from (pos 0)) (get_or place.now e.to (pos 0))))
-        (map (edge_at es) (up_to es.count))) ≡ true)
-        × (result ≡ true → (v : ℕ) → get_or into.new v false
-        ≡ any_of (λ (e : Edge). eqb e.to v) (map (edge_at es) (up_to es.count))) }
-{
-    let mut stamps = [0u16; 1024];
-    let m = es.count;
-    let mut i: usize = 0;
-    while i < m {
-        let from = NodeIndex(es.from[i]);
-        let to = NodeIndex(es.to[i]);
-        if !edge_fits(from, to, n, place, op) {
-            return false;
-        }
-        let newer = newer_end(from, to);
-        let cell = older_cell(from, to);
-        let stamp = newer + 1;
-        if stamp <= stamps[cell] {
-            return false;
-        }
-        stamps[cell] = stamp;
-        into[to.0 as usize] = true;
-        i += 1;
-    }
-    true
-}
-
-// Every edge fits and no two are the same; into gets the targets. The edges of a built graph pass at the first look.
-fn all_edges_fit(
-    es: Edges,
-    n: usize,
-    place: &[i16; 512],
-    op: &[bool; 512],
-    into: &mut [bool; 512],
-) -> bool
-    requires { (es.count ≤ 2048) × (n ≤ 512) × (into.old ≡ replicate 512 false) }
-    ensures { (result ≡ (distinct same_edge (map (edge_at es) (up_to es.count))
-        && all_of (λ (e : Edge). ltb e.from n && ltb e.to n
-        && (get_or op.now e.from false && get_or op.now e.to false
-        && lt_z (get_or place.now e.from (pos 0)) (get_or place.now e.to (pos 0))))
-        (map (edge_at es) (up_to es.count))))
-        × (result ≡ true → (v : ℕ) → get_or into.new v false
-        ≡ any_of (λ (e : Edge). eqb e.to v) (map (edge_at es) (up_to es.count))) }
-{
-    if edges_fit_by_stamps(es, n, place, op, into) {
-        return true;
-    }
-    *into = [false; 512];
-    edges_fit(es, n, place, op, into)
-}
-
-// An entry that may be absent names a qubit operation of the graph.
-fn names_operation(x: NodeIndex, n: usize, op: &[bool; 512]) -> bool
-    requires { n ≤ 512 }
-    ensures { result ≡ if_present (λ (v : ℕ). ltb v n && get_or op.now v false) x.0 }
-{
-    if x.0 == 65535 {
-        return true;
-    }
-    let v = x.0 as usize;
-    if v < n {
-        return op[v];
-    }
-    false
-}
-
-// So do all entries of an end, its all-qubit node first.
-fn names_fit(all: NodeIndex, node: &[u16; 64], n: usize, op: &[bool; 512]) -> bool
-    requires { (n ≤ 512) × (length node.now ≡ 64) }
-    ensures { result ≡ all_of (if_present (λ (v : ℕ). ltb v n && get_or op.now v false))
-        (all.0 ∷ node.now) }
-{
-    if !names_operation(all, n, op) {
-        return false;
-    }
-    let mut q: usize = 0;
-    while q < 64 {
-        if !names_operation(NodeIndex(node[q]), n, op) {
-            return false;
-        }
-        q += 1;
-    }
-    true
-}
-
-// An end names qubit operations of the graph, and its block holds nodes of the graph.
-fn end_fits(e: End, n: usize, op: &[bool; 512]) -> bool
-    requires { n ≤ 512 }
-    ensures { result ≡ (all_of (if_present (λ (v : ℕ). ltb v n && get_or op.now v false)) (named e)
-        && all_of (λ (v : ℕ). ltb v n) (members e.block)) }
-{
-    let all = e.all;
-    let node = e.node;
-    if !names_fit(all, &node, n, op) {
-        return false;
-    }
-    let block = e.block;
-    members_below(block, n)
-}
-
-// A member of the first block is a qubit operation without an incoming edge.
-fn starts_circuit(member: bool, operation: bool, target: bool) -> bool
-    ensures { result ≡ (not member || (operation && not target)) }
-{
-    !member | (operation & !target)
-}
-
-// So are all members.
-fn first_fits(block: &[bool; 512], op: &[bool; 512], into: &[bool; 512]) -> bool
-    requires { length block.now ≡ 512 }
-    ensures { result ≡ all_of (λ (v : ℕ). get_or op.now v false && not (get_or into.now v false))
-        (members block.now) }
-{
-    let mut fit = true;
-    let mut v: usize = 0;
-    while v < 512 {
-        fit = fit & starts_circuit(block[v], op[v], into[v]);
-        v += 1;
-    }
-    fit
 }
 
 // The commuting list ascends strictly, below n.
-fn commuting_fits(c: Commuting, n: usize) -> bool
-    requires { c.count ≤ 512 }
-    ensures { result ≡ (ascends (take c.count c.list) && all_of (λ (v : ℕ). ltb v n) (take c.count c.list)) }
+fn commuting_fits(c: &Commuting, n: usize) -> bool
+    requires { c.now.count ≤ 512 }
+    ensures { result ≡ commuting_fits n c.now }
 {
-    let m = c.count;
-    let mut low: usize = 0;
-    let mut i: usize = 0;
-    while i < m {
-        let v = file::to_index(c.list[i]);
-        if v < low {
-            return false;
-        }
-        if n <= v {
-            return false;
-        }
-        low = v + 1;
-        i += 1;
-    }
-    true
+    let list = &c.list[..c.count];
+    ascends(list) && all_below(list, n)
 }
 
-// A key's cell: names that differ modulo 8, with indices below 256, have cells of their own.
-fn cell_of(name: u8, index: u16) -> usize
-    ensures { result ≡ (name * 256 + index) % 2048 }
+// A list ascends strictly.
+fn ascends(list: &[u16]) -> bool
+    ensures { result ≡ ascends list.now }
 {
-    ((name as usize) * 256 + (index as usize)) % 2048
+    list.is_sorted_by(|a, b| *a < *b)
 }
 
-// The same name and index.
-fn same_key(a: u8, b: u16, x: u8, y: u16) -> bool
-    ensures { result ≡ (eqb a x && eqb b y) }
-{
-    a == x && b == y
-}
-
-// The key of entry i stands before it.
-fn is_repeated(name: &[u8; 256], index: &[u16; 256], i: usize) -> bool
-    requires { i < 256 }
-    ensures { result ≡ any_of (λ (x : Entry). same_key x
-        (entry (get_or name.now i 0) (get_or index.now i 0) 0))
-        (map (λ (j : ℕ). entry (get_or name.now j 0) (get_or index.now j 0) 0) (up_to i)) }
-{
-    let a = name[i];
-    let b = index[i];
-    let mut j: usize = 0;
-    while j < i {
-        if same_key(name[j], index[j], a, b) {
-            return true;
-        }
-        j += 1;
-    }
-    false
-}
-
-// Behind a free cell the key is new; behind a taken one the keys before it decide.
-fn is_taken(marked: bool, name: &[u8; 256], index: &[u16; 256], i: usize) -> bool
-    requires { i < 256 }
-    ensures { result ≡ (marked && any_of (λ (x : Entry). same_key x
-        (entry (get_or name.now i 0) (get_or index.now i 0) 0))
-        (map (λ (j : ℕ). entry (get_or name.now j 0) (get_or index.now j 0) 0) (up_to i))) }
-{
-    if marked {
-        return is_repeated(name, index, i);
-    }
-    false
-}
-
-// The keys are distinct, whatever their order, by a table of cells.
-fn keys_differ(name: &[u8; 256], index: &[u16; 256], m: usize) -> bool
-    requires { m ≤ 256 }
-    ensures { result ≡ distinct same_key
-        (map (λ (j : ℕ). entry (get_or name.now j 0) (get_or index.now j 0) 0) (up_to m)) }
-{
-    let mut cells = [false; 2048];
-    let mut i: usize = 0;
-    while i < m {
-        let k = cell_of(name[i], index[i]);
-        if is_taken(cells[k], name, index, i) {
-            return false;
-        }
-        cells[k] = true;
-        i += 1;
-    }
-    true
-}
-
-// A key as one number, its name before its index.
-fn key_number(name: u8, index: u16) -> u32
-    ensures { (result ≡ name * 65536 + index) × (result < 16777216) }
-{
-    (name as u32) * 65536 + (index as u32)
-}
-
-// The keys ascend, as definitions in the order of their names leave them, and so are distinct: no table is needed, and no
-// branch on an entry. Where this says no, keys_differ decides.
-fn keys_ascend(name: &[u8; 256], index: &[u16; 256], m: usize) -> bool
-    requires { m ≤ 256 }
-    ensures { result ≡ true → distinct same_key
-        (map (λ (j : ℕ). entry (get_or name.now j 0) (get_or index.now j 0) 0) (up_to m)) ≡ true }
-{
-    let mut ascend = true;
-    let mut next: u32 = 0;
-    let mut i: usize = 0;
-    while i < m {
-        let key = key_number(name[i], index[i]);
-        ascend = ascend & (next <= key);
-        next = key + 1;
-        i += 1;
-    }
-    ascend
-}
-
-// The first m nodes are below n, without a branch on an entry.
-fn nodes_below(node: &[u16; 256], m: usize, n: usize) -> bool
-    requires { m ≤ 256 }
-    ensures { result ≡ all_of (λ (v : ℕ). ltb v n) (map (λ (i : ℕ). get_or node.now i 0) (up_to m)) }
+// The numbers of a list are below n, without a branch on an entry.
+fn all_below(list: &[u16], n: usize) -> bool
+    ensures { result ≡ all_of (λ (v : ℕ). ltb v n) list.now }
 {
     let mut fit = true;
-    let mut i: usize = 0;
-    while i < m {
-        fit = fit & (file::to_index(node[i]) < n);
-        i += 1;
+    for v in list {
+        fit &= usize::from(*v) < n;
     }
     fit
 }
 
-// Keys are distinct, nodes below n.
-fn registers_fit(r: Registers, n: usize) -> bool
-    requires { r.count ≤ 256 }
-    ensures { result ≡ (keys_distinct r && all_of (λ (x : Entry). ltb x.node n) (map (entry_at r) (up_to r.count))) }
-{
-    let m = r.count;
-    if m == 0 {
-        return true;
-    }
-    let name = r.name;
-    let index = r.index;
-    let node = r.node;
-    if !nodes_below(&node, m, n) {
-        return false;
-    }
-    if keys_ascend(&name, &index, m) {
-        return true;
-    }
-    keys_differ(&name, &index, m)
+// The entries of a register map within the limit.
+#[derive(Drop)]
+struct Entries<'a> {
+    map: &'a Registers,
+    ghost few: { map.now.count ≤ 256 },
 }
 
-// Whether a map keeps the clauses on a register map of a graph with n nodes.
+impl<'a> Entries<'a> {
+    // Keys are distinct, nodes below n.
+    fn fit(&self, n: usize) -> bool
+        ensures { result ≡ entries_fit n self.now.map.now }
+    {
+        all_below(&self.map.node[..self.map.count], n) && (self.keys_ascend() || self.keys_differ())
+    }
+
+    // The key of entry i as one number, its name before its index.
+    fn key(&self, i: usize) -> u32
+        requires { i < 256 }
+        ensures { (result ≡ key_number self.now.map.now i) × (result < 16777216) }
+    {
+        u32::from(self.map.name[i]) * 65536 + u32::from(self.map.index[i])
+    }
+
+    // The keys ascend, as definitions in the order of their names leave them, and so are distinct: no table is needed,
+    // and no branch on an entry. Where this says no, keys_differ decides.
+    fn keys_ascend(&self) -> bool
+        ensures { result ≡ true → keys_distinct self.now.map.now ≡ true }
+    {
+        let mut ascend = true;
+        let mut next = 0;
+        for i in 0..self.map.count {
+            let key = self.key(i);
+            ascend &= next <= key;
+            next = key + 1;
+        }
+        ascend
+    }
+
+    // The key of entry i stands before it.
+    fn is_repeated(&self, i: usize) -> bool
+        requires { i < 256 }
+        ensures { result ≡ is_repeated self.now.map.now i }
+    {
+        let (name, index) = (self.map.name[i], self.map.index[i]);
+        (0..i).any(|j| self.map.name[j] == name && self.map.index[j] == index)
+    }
+
+    // The keys are distinct, whatever their order, by a table of cells: names that differ modulo 8, with indices below
+    // 256, have cells of their own. Behind a free cell the key is new; behind a taken one the keys before it decide.
+    fn keys_differ(&self) -> bool
+        ensures { result ≡ keys_distinct self.now.map.now }
+    {
+        let mut cells = [false; 2048];
+        for i in 0..self.map.count {
+            let cell = (usize::from(self.map.name[i]) * 256 + usize::from(self.map.index[i]))
+                % 2048;
+            if cells[cell] && self.is_repeated(i) {
+                return false;
+            }
+            cells[cell] = true;
+        }
+        true
+    }
+}
+
+// A map keeps the clauses on a register map of a graph with n nodes.
+fn registers_fit(r: &Registers, n: usize) -> bool
+    ensures { result ≡ register_map_rule n r.now }
+{
+    r.count <= 256 && Entries { map: r }.fit(n)
+}
+
+// .. of a map by value, for the crates above.
 pub fn is_register_map(r: Registers, n: usize) -> bool
     ensures { result ≡ register_map_rule n r }
 {
-    if 256 < r.count {
-        return false;
-    }
-    registers_fit(r, n)
+    registers_fit(&r, n)
 }
 
-// Both ends fit, and the first block starts the circuit.
-fn ends_fit(first: End, last: End, n: usize, op: &[bool; 512], into: &[bool; 512]) -> bool
-    requires { n ≤ 512 }
-    ensures { result ≡ (all_of (if_present (λ (v : ℕ). ltb v n && get_or op.now v false)) (named first)
-        && all_of (λ (v : ℕ). ltb v n) (members first.block)
-        && (all_of (if_present (λ (v : ℕ). ltb v n && get_or op.now v false)) (named last)
-        && all_of (λ (v : ℕ). ltb v n) (members last.block))
-        && all_of (λ (v : ℕ). get_or op.now v false && not (get_or into.now v false))
-        (members first.block)) }
+// All but the counts and the places.
+fn parts_fit(g: &CircuitDag) -> bool
+    requires { counts_fit g.now ≡ true }
+    ensures { result ≡ parts_fit g.now }
 {
-    if !end_fits(first, n, op) {
-        return false;
-    }
-    if !end_fits(last, n, op) {
-        return false;
-    }
-    let block = first.block;
-    first_fits(&block, op, into)
-}
-
-// The commuting list and both register maps fit.
-fn lists_fit(commuting: Commuting, first: Registers, last: Registers, n: usize) -> bool
-    requires { (commuting.count ≤ 512) × (first.count ≤ 256) × (last.count ≤ 256) }
-    ensures { result ≡ (ascends (take commuting.count commuting.list)
-        && all_of (λ (v : ℕ). ltb v n) (take commuting.count commuting.list)
-        && (keys_distinct first && all_of (λ (x : Entry). ltb x.node n) (map (entry_at first) (up_to first.count)))
-        && (keys_distinct last && all_of (λ (x : Entry). ltb x.node n) (map (entry_at last) (up_to last.count)))) }
-{
-    if !commuting_fits(commuting, n) {
-        return false;
-    }
-    if !registers_fit(first, n) {
-        return false;
-    }
-    registers_fit(last, n)
+    let n = g.nodes.count;
+    let operations = Operations::of(g);
+    operations.all_edges_fit()
+        && operations.has_all(&g.first.block)
+        && operations.end_fits(&g.first)
+        && operations.end_fits(&g.last)
+        && commuting_fits(&g.commuting, n)
+        && registers_fit(&g.first_registers, n)
+        && registers_fit(&g.last_registers, n)
 }
 
 // "A handed-in graph is sound if ..": every clause holds. The counts come first, since the other loops run to them.
 pub fn is_sound(g: CircuitDag) -> bool
     ensures { result ≡ sound g }
 {
-    let n = g.nodes.count;
-    let backs = g.backs;
-    let fronts = g.fronts;
-    let edges = g.edges;
-    let commuting = g.commuting;
-    let first = g.first_registers;
-    let last = g.last_registers;
-    if !counts_fit(
-        n,
-        edges.count,
-        first.count,
-        last.count,
-        commuting.count,
-        backs,
-        fronts,
-    ) {
-        return false;
-    }
-    let place = g.nodes.place;
-    if !places_fit(&place, n, backs, fronts) {
-        return false;
-    }
-    let kind = g.nodes.kind;
-    let form = g.nodes.form;
-    let op = operations(&kind, &form);
-    let mut into = no_marks();
-    if !all_edges_fit(edges, n, &place, &op, &mut into) {
-        return false;
-    }
-    let first_end = g.first;
-    let last_end = g.last;
-    if !ends_fit(first_end, last_end, n, &op, &into) {
-        return false;
-    }
-    lists_fit(commuting, first, last, n)
+    counts_fit(&g) && places_fit(&g) && parts_fit(&g)
 }

@@ -24,9 +24,9 @@ use Rattle.graph.specs.Dag.{absent, empty, no_end, node, size}
 use Rattle.graph.specs.Soundness.{sound}
 use Rattle.file.proofs.BoolLaws.{bool_cases, clash_bool, not-true}
 use Rattle.graph.proofs.ListLaws.{all_here, all_fails}
-use Rattle.insertion.specs.declared.Answer.TheVariants.{Node, Refused}
 use Rattle.insertion.specs.declared.Inserted.{Inserted}
-use Rattle.links.specs.Links.{rule_of, LoadingRule}
+use Rattle.links.specs.Links.{rule_of}
+use Rattle.links.specs.declared.LoadingRule.{LoadingRule}
 use Rattle.insertion.specs.Insertion.{grown_at, grown}
 use Rattle.insertion.specs.Limits.{refused, insert_by}
 use Rattle.insertion.specs.Calls.{Call as Insertion, bytes_of, graph_after, built as built_by, all_by}
@@ -39,6 +39,7 @@ use Rattle.guarantee.proofs.LinkViews.{take_by}
 use Rattle.guarantee.proofs.GrownViews.{Seen, grown-at, call_at, grown_seen}
 use Rattle.guarantee.proofs.Nets.{Net, Take, nothing, every, these, Call, flip, back, insert, run, empty as empty_net}
 use Rattle.guarantee.proofs.NetRuns.{Ranked, turn, back-before, ranked_insert, empty_ranked}
+use Rattle.std.specs.Prelude.{Ok, Err}
 
 -- ---- a list with one entry more
 
@@ -83,14 +84,14 @@ abbrev pub take_of : Accepted → Take
 take_of o = take_by (qubits_of o.bytes)
 
 -- by the rule that is given
-abbrev pub call_of : Bool → Accepted → Call
+abbrev pub call_of : LoadingRule → Accepted → Call
 call_of far_all o = call_at far_all (front o.bytes) o.bytes
 
 -- the calls of a list that are accepted on g, each by its own rule
 unfoldable pub calls_from : CircuitDag → List Insertion → List Call
 calls_from g [] = []
 calls_from g (c ∷ l) = let s = c.bytes in let x = insert_by c.rule g s in
-    elim x.answer [ Node v ↦ call_at c.rule (front s) s ∷ calls_from x.graph l | Refused r ↦ calls_from x.graph l ]
+    elim x.answer [ Ok v ↦ call_at c.rule (front s) s ∷ calls_from x.graph l | Err r ↦ calls_from x.graph l ]
 
 abbrev pub net_of : List Insertion → Net
 net_of l = run empty_net (calls_from empty l)
@@ -135,11 +136,11 @@ insert-before N c u v = ⊎_elim
 abbrev pub next_place : Bool → CircuitDag → ℤ
 next_place b g = cond b (negsuc g.fronts) (pos g.backs)
 
-grown-size : (far_all b : Bool) (g : CircuitDag) (s : List ℕ) → size (grown_at (rule_of far_all) b g s) ≡ size g + 1
+grown-size : (far_all : LoadingRule) (b : Bool) (g : CircuitDag) (s : List ℕ) → size (grown_at (rule_of far_all) b g s) ≡ size g + 1
 grown-size far_all true g s = refl
 grown-size far_all false g s = refl
 
-module _ (far_all : Bool) (N : Net) (g : CircuitDag) (l : List Accepted) (T : Built N g l) (s : List ℕ) (low : size g < 512) (keeps : record_rule s ≡ true)
+module _ (far_all : LoadingRule) (N : Net) (g : CircuitDag) (l : List Accepted) (T : Built N g l) (s : List ℕ) (low : size g < 512) (keeps : record_rule s ≡ true)
     (small : all_of (λ b. ltb b 256) s ≡ true) (o : Accepted) (is-node : o.node ≡ size g) (is-place : o.place ≡ next_place (front s) g) (is-bytes : o.bytes ≡ s) where
   abbrev l' : List Accepted
   l' = l ++ (o ∷ [])
@@ -243,7 +244,7 @@ module _ (far_all : Bool) (N : Net) (g : CircuitDag) (l : List Accepted) (T : Bu
 
 module _ (rule : LoadingRule) (g : CircuitDag) (s : List ℕ) where
   insert_told : (P : Inserted → Type 0) → ((r : Refusal) → P (refused r g))
-      → (good s ≡ true → size g < 512 → P (record { answer = Node (node (size g)); graph = grown (rule_of rule) g s })) → P (insert_by rule g s)
+      → (good s ≡ true → size g < 512 → P (record { answer = Ok (node (size g)); graph = grown (rule_of rule) g s })) → P (insert_by rule g s)
   unfolding insert_by
   insert_told P p q = ⊎_elim
       (λ (h : sound g ≡ true). rw h (insert_cases (rule_of rule) g s 0 P (λ r c. p (at_record 0 r)) (λ t. q t.whole (leb-false 512 (size g) t.free))))
@@ -253,14 +254,14 @@ module _ (rule : LoadingRule) (g : CircuitDag) (s : List ℕ) where
 -- the accepted records of s ∷ l, by what the insertion of s gave
 abbrev accept_step : ℕ → ℕ → List ℕ → List Insertion → Inserted → List Accepted
 accept_step b f s l x = elim x.answer [
-  | Node v ↦ record { node = b + f; place = cond (front s) (negsuc f) (pos b); bytes = s } ∷ accepted_from x.graph (cond (front s) b (b + 1)) (cond (front s) (f + 1) f) l
-  | Refused r ↦ accepted_from x.graph b f l
+  | Ok v ↦ record { node = b + f; place = cond (front s) (negsuc f) (pos b); bytes = s } ∷ accepted_from x.graph (cond (front s) b (b + 1)) (cond (front s) (f + 1) f) l
+  | Err r ↦ accepted_from x.graph b f l
 ]
 
 -- .. and the accepted calls of c ∷ l
 abbrev call_step : Insertion → List Insertion → Inserted → List Call
 call_step c l x = let s = c.bytes in
-    elim x.answer [ Node v ↦ call_at c.rule (front s) s ∷ calls_from x.graph l | Refused r ↦ calls_from x.graph l ]
+    elim x.answer [ Ok v ↦ call_at c.rule (front s) s ∷ calls_from x.graph l | Err r ↦ calls_from x.graph l ]
 
 -- no accepted record has an empty set, in whatever ways they come in
 none-empty : (l : List Insertion) (g : CircuitDag) (b f : ℕ) → any_of (λ (o : Accepted). empty_set o.bytes) (accepted_from g b f l) ≡ false
@@ -321,7 +322,7 @@ built-from (c ∷ l) N g b f d T p q h = insert_told rule g s
     rule : LoadingRule
     rule = c.rule
 
-    far : Bool
+    far : LoadingRule
     far = c.rule
 
     s : List ℕ

@@ -20,11 +20,11 @@ use Rattle.insertion.specs.Calls.{Call, bytes_of, built as built_by, all_by, fin
 use Rattle.insertion.proofs.BuiltLaws.{sound-built}
 use Rattle.insertion.proofs.CaseLaws.{insert_cases}
 use Rattle.graph.specs.declared.NodeIndex.{NodeIndex}
-use Rattle.links.specs.Links.{FarRule, LoadingRule, NearAll, FarAll, rule_of}
-use Rattle.insertion.specs.declared.Answer.TheVariants.{Node}
+use Rattle.links.specs.Links.{FarRule, rule_of}
+use Rattle.links.specs.declared.LoadingRule.{LoadingRule}
+use Rattle.links.specs.declared.LoadingRule.TheVariants.{NearAll, FarAll}
 use Rattle.insertion.specs.declared.Inserted.{Inserted}
 use Rattle.insertion.specs.Limits.{insert_as}
-use Rattle.walk.specs.declared.BlockCount.TheVariants.{Blocks}
 use Rattle.walk.specs.Blocks.{Walked, state_after, block_of_step, blocks}
 use Rattle.guarantee.specs.Guarantee.{Accepted, accepted, takes_qubits, operations, Each, Orders, different}
 use Rattle.guarantee.specs.Guarantee.{entry, filled, Bytes, Condition, Guarantee, Guaranteed, Demand3, BothEnds}
@@ -37,6 +37,7 @@ use Rattle.walk.proofs.WholeLaws.{walk_short, walk_done, walk_entry}
 use Rattle.guarantee.proofs.CountLaws.{count_ext, different-count}
 use Rattle.guarantee.proofs.AcceptedNets.{call_of, net_of, no_record, at, Built, no_empty_set, built-size, built, bytes_by, calls_by}
 use Rattle.guarantee.proofs.RecordTakes.{takes_qubits_lem, clash-is, calls-far, nonempties, one_all}
+use Rattle.std.specs.Prelude.{Ok}
 
 -- ---- each of a list
 
@@ -75,8 +76,8 @@ map-map f [] = refl
 map-map f (o ∷ l) = ap (λ (t : List ℕ). f o.node ∷ t) (map-map f l)
 
 -- the number that an accepted record answers
-number_of : (rule : FarRule) (g : CircuitDag) (s : List ℕ) (v : NodeIndex) → (insert_as rule 0 g s).answer ≡ Node v → size g ≡ v.0
-number_of rule g s v = insert_cases rule g s 0 (λ x. x.answer ≡ Node v → size g ≡ v.0)
+number_of : (rule : FarRule) (g : CircuitDag) (s : List ℕ) (v : NodeIndex) → (insert_as rule 0 g s).answer ≡ Ok v → size g ≡ v.0
+number_of rule g s v = insert_cases rule g s 0 (λ x. x.answer ≡ Ok v → size g ≡ v.0)
     (λ r c e. let z : ◌≡◌ {A = ℕ} 0 1 = cc in absurd (omega arith))
     (λ t e. cc)
 
@@ -240,7 +241,7 @@ module _ (calls : List Call) (buffer : List ℕ) (bytes : Bytes (bytes_of calls)
         let here = ap (λ (x : Inserted). x.answer) ((sound-built before).never c.rule c.bytes) in
         sym (number_of (rule_of c.rule) (built_by before) c.bytes v (sym here ∙ a)) ∙ built-size before;
     nodes = sym T.long;
-    count = ap (λ (x : Walked). x.answer) (walk_done g sound-g buffer room) ∙ ap Blocks (steps-is ∙ sym filled_is);
+    count = ap (λ (x : Walked). x.answer) (walk_done g sound-g buffer room) ∙ ap Ok (steps-is ∙ sym filled_is);
     once = once_of;
     others = others_of;
     order = order_of;
@@ -267,9 +268,9 @@ guaranteed_by rule Meets bytes base = record {
 -- demand 3: document 01's way, within the condition
 pub demand_3 : Demand3
 demand_3 = guaranteed_by NearAll Condition (λ l C. C.bytes)
-    (λ l C e r b. net_base (map (call_of false) (accepted (all_by NearAll l))) e (one_all false (accepted (all_by NearAll l)) r b C.one_all))
+    (λ l C e r b. net_base (map (call_of NearAll) (accepted (all_by NearAll l))) e (one_all NearAll (accepted (all_by NearAll l)) r b C.one_all))
 
 -- K6's way, with no condition
 pub both_ends : BothEnds
 both_ends = guaranteed_by FarAll Bytes (λ l h. h)
-    (λ l h e r b. far_base (map (call_of true) (accepted (all_by FarAll l))) e (calls-far (accepted (all_by FarAll l))))
+    (λ l h e r b. far_base (map (call_of FarAll) (accepted (all_by FarAll l))) e (calls-far (accepted (all_by FarAll l))))

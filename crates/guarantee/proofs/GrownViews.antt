@@ -16,7 +16,8 @@ use Rattle.graph.specs.declared.CircuitDag.{CircuitDag}
 use Rattle.graph.specs.Dag.{Edge, edge, size, edge_at, same_edge, has_edge, with_edges}
 use Rattle.file.proofs.BoolLaws.{bool_cases, bool_ext, and_intro, or_cases, or_inl, or_inr}
 use Rattle.graph.proofs.ListLaws.{map_at, any_here, any-later, any_at, at-any, any-up_to, up_to-any}
-use Rattle.links.specs.Links.{rule_of, link, link_by, LoadingRule}
+use Rattle.links.specs.Links.{rule_of, is_far, link, link_by}
+use Rattle.links.specs.declared.LoadingRule.{LoadingRule}
 use Rattle.insertion.specs.Insertion.{grown_at, grown}
 use Rattle.insertion.proofs.BuiltLaws.{Safe}
 use Rattle.insertion.proofs.SafeEdges.{appended-old, appended-new}
@@ -116,8 +117,8 @@ pub grown-at : (rule : LoadingRule) (g : CircuitDag) (s : List ℕ) → grown (r
 unfolding grown
 grown-at rule g s = refl
 
-abbrev pub call_at : Bool → Bool → List ℕ → Call
-call_at far_all b s = record { far = far_all; front = b; takes = take_by (qubits_of s) }
+abbrev pub call_at : LoadingRule → Bool → List ℕ → Call
+call_at far_all b s = record { far = is_far far_all; front = b; takes = take_by (qubits_of s) }
 
 module _ (g : CircuitDag) (s : List ℕ) (G : Safe false g) (low : size g < 512) where
   fits_last : Fits (size g) g.last g.first
@@ -150,7 +151,7 @@ module _ (g : CircuitDag) (s : List ℕ) (G : Safe false g) (low : size g < 512)
   in_to : g.edges.count ≤ length g.edges.to
   in_to = omega (arith, G.edges.count, G.edges.to_size)
 
-  pub grown_seen : (far_all b : Bool) (N : Net) → Seen g N → Seen (grown_at (rule_of far_all) b g s) (insert N (call_at far_all b s))
+  pub grown_seen : (far_all : LoadingRule) (b : Bool) (N : Net) → Seen g N → Seen (grown_at (rule_of far_all) b g s) (insert N (call_at far_all b s))
   grown_seen far_all false N S = sees_as (size g + 1) _ _ _ _ _ (link_sees far_all (qubits_of s) (size g) (λ a b. has_edge g a b) g.last g.first N S fits_last)
       (λ a b. sym (edges_in g.edges (map (link false (size g)) (link_by (qubits_of s) (rule_of far_all) (size g) g.last g.first).others) in_from in_to a b
       ∙ ap (λ (x : Bool). has_edge g a b || x) (links-back (size g) a b (link_by (qubits_of s) (rule_of far_all) (size g) g.last g.first).others)))

@@ -19,7 +19,9 @@ use Rattle.graph.specs.declared.End.{End}
 use Rattle.graph.specs.Dag.{absent, present, or_else, at_qubit}
 use Rattle.file.proofs.BoolLaws.{bool_cases, clash_bool, not-true, bool_ext, and_l, and_r, and_intro, or_inl, or_inr, flip-not, eqb_same, eqb-flip}
 use Rattle.graph.proofs.ListLaws.{any_here, any-later, any_at, at-any, any_snoc, distinct_first, distinct-rest}
-use Rattle.links.specs.Links.{Linked, FarRule, rule_of, source, near_after, no_qubit, qubits, link_qubits, link_set, mapped, link_all, link_by}
+use Rattle.links.specs.Links.{Linked, FarRule, rule_of, is_far, source, near_after, no_qubit, qubits, link_qubits, link_set, mapped, link_all, link_by}
+use Rattle.links.specs.declared.LoadingRule.{LoadingRule}
+use Rattle.links.specs.declared.LoadingRule.TheVariants.{NearAll, FarAll}
 use Rattle.links.proofs.QubitLaws.{qubits_ascend}
 use Rattle.links.proofs.LinkLaws.{low_present, qubits_in, add_present, link_one, ascend_distinct, steady_rule, set_entries, set_outside, far_entry}
 use Rattle.graph.proofs.ListLaws.{all_same}
@@ -270,7 +272,7 @@ module _ (n : ℕ) (E : ℕ → ℕ → Bool) (near far : End) (N : Net) (S : Se
     heads = S.heads;
   }
 
-  module _ (far_all : Bool) (m : ℕ) where
+  module _ (far_all : LoadingRule) (m : ℕ) where
     abbrev began : Linked
     began = record { near = near; far = far; others = [] }
 
@@ -312,7 +314,7 @@ module _ (n : ℕ) (E : ℕ → ℕ → Bool) (near far : End) (N : Net) (S : Se
         (λ (e : has m q ≡ false). rw e (S.lasts q l ∙ ap found (sym (set_outside (rule_of far_all) m n q near far e).0)))
         (bool_cases (has m q))
 
-    set_firsts : (q : ℕ) → q < 64 → cond (has m q && not (option_is_some (N.last q))) (some (far_in far_all N N.size)) (N.first q) ≡ found (at_qubit x.far q)
+    set_firsts : (q : ℕ) → q < 64 → cond (has m q && not (option_is_some (N.last q))) (some (far_in (is_far far_all) N N.size)) (N.first q) ≡ found (at_qubit x.far q)
     set_firsts q l = ⊎_elim
         (λ (e : has m q ≡ true). rw e (new (present (at_qubit near q)) refl
         ∙ ap found (sym (set_entries (rule_of far_all) (steady_rule far_all) m n q near far e (omega (arith, F.near_nodes)) (omega (arith, F.far_nodes))).1)))
@@ -322,12 +324,12 @@ module _ (n : ℕ) (E : ℕ → ℕ → Bool) (near far : End) (N : Net) (S : Se
         known : option_is_some (N.last q) ≡ present (at_qubit near q)
         known = ap option_is_some (S.lasts q l) ∙ found_some (at_qubit near q)
 
-        fresh : (b : Bool) → some (far_in b N N.size) ≡ found (or_else (rule_of b near far) n)
-        fresh true = (λ i. some (or (S.first_all_lem i) (S.size i))) ∙ found-or far.all.0 n F.low
-        fresh false = (λ i. some (or (S.last_all_lem i) (S.size i))) ∙ found-or near.all.0 n F.low
+        fresh : (b : LoadingRule) → some (far_in (is_far b) N N.size) ≡ found (or_else (rule_of b near far) n)
+        fresh FarAll = (λ i. some (or (S.first_all_lem i) (S.size i))) ∙ found-or far.all.0 n F.low
+        fresh NearAll = (λ i. some (or (S.last_all_lem i) (S.size i))) ∙ found-or near.all.0 n F.low
 
         new : (b : Bool) → present (at_qubit near q) ≡ b
-            → cond (not (option_is_some (N.last q))) (some (far_in far_all N N.size)) (N.first q) ≡ found (far_entry (rule_of far_all) near far n q)
+            → cond (not (option_is_some (N.last q))) (some (far_in (is_far far_all) N N.size)) (N.first q) ≡ found (far_entry (rule_of far_all) near far n q)
         new true e = rw (known ∙ e, e) (S.firsts q l)
         new false e = rw (known ∙ e, e) (fresh far_all)
 
@@ -349,7 +351,7 @@ module _ (n : ℕ) (E : ℕ → ℕ → Bool) (near far : End) (N : Net) (S : Se
         sources = any_ext 64 _ _ (λ q l. ap (λ (b : Bool). has m q && b) (ap (λ (o : Option ℕ). is o u) (source_is q l) ∙ found-is (source near q) u))
             ∙ sym (has-any m (λ q. is_at (source near q) u))
 
-    pub set_sees : Sees (n + 1) (joined_edges n E x.others) x.near x.far (back_these far_all N (has m))
+    pub set_sees : Sees (n + 1) (joined_edges n E x.others) x.near x.far (back_these (is_far far_all) N (has m))
     unfolding link_set
     set_sees = record {
       size = (let e = S.size in omega arith);
@@ -478,8 +480,8 @@ take_by None = nothing
 take_by All = every
 take_by (Set m) = these (has m)
 
-pub link_sees : (far_all : Bool) (k : InvolvedQubits) (n : ℕ) (E : ℕ → ℕ → Bool) (near far : End) (N : Net) → Sees n E near far N → Fits n near far
-    → let x = link_by k (rule_of far_all) n near far in Sees (n + 1) (joined_edges n E x.others) x.near x.far (back far_all N (take_by k))
+pub link_sees : (far_all : LoadingRule) (k : InvolvedQubits) (n : ℕ) (E : ℕ → ℕ → Bool) (near far : End) (N : Net) → Sees n E near far N → Fits n near far
+    → let x = link_by k (rule_of far_all) n near far in Sees (n + 1) (joined_edges n E x.others) x.near x.far (back (is_far far_all) N (take_by k))
 link_sees far_all None n E near far N S F = none_sees n E near far N S F
 link_sees far_all All n E near far N S F = all_sees n E near far N S F
 link_sees far_all (Set m) n E near far N S F = set_sees n E near far N S F far_all m

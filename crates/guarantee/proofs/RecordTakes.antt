@@ -15,6 +15,8 @@ use Rattle.file.specs.Records.{front, kind, qubit_form, register_form, mask, def
 use Rattle.file.proofs.BoolLaws.{bool_cases, clash_bool, not-true, and_l, and_r, and_intro, or_inl, flip-not}
 use Rattle.graph.proofs.ListLaws.{all_at, none-at, keep-any}
 use Rattle.links.specs.Links.{qubits}
+use Rattle.links.specs.declared.LoadingRule.{LoadingRule}
+use Rattle.links.specs.declared.LoadingRule.TheVariants.{FarAll}
 use Rattle.links.proofs.QubitLaws.{qubits-next}
 use Rattle.guarantee.specs.Guarantee.{Accepted, takes_all, takes_qubits, clash}
 use Rattle.walk.proofs.Bounds.{any}
@@ -91,7 +93,7 @@ clash-is s t p q h k = clash_by (qubit_form s) (mask s) (qubit_form t) (mask t) 
 
 -- ---- the calls, by a rule
 
-module _ (far : Bool) where
+module _ (far : LoadingRule) where
   calls_nonempty : (l : List Accepted) → ((i : ℕ) → i < length l → NonEmpty (take_of (at l i))) → NonEmpties (map (call_of far) l)
   calls_nonempty [] h = tt
   calls_nonempty (o ∷ l) h = (h 0 (omega arith), calls_nonempty l (λ i k. h (suc i) (omega arith)))
@@ -117,11 +119,11 @@ module _ (far : Bool) where
       (bool_cases (eqb (qubit_form o.bytes) 2))))
       (bool_cases (takes_all o.bytes))
 
-pub calls-far : (l : List Accepted) → AllFar (map (call_of true) l)
+pub calls-far : (l : List Accepted) → AllFar (map (call_of FarAll) l)
 calls-far [] = tt
 calls-far (o ∷ l) = (refl, calls-far l)
 
-module _ (far : Bool) (l : List Accepted) (rule : (u : ℕ) → u < length l → record_rule (at l u).bytes ≡ true)
+module _ (far : LoadingRule) (l : List Accepted) (rule : (u : ℕ) → u < length l → record_rule (at l u).bytes ≡ true)
     (bytes : (u : ℕ) → u < length l → all_of (λ b. ltb b 256) (at l u).bytes ≡ true) where
   abbrev ops : List Accepted
   ops = keep (λ (o : Accepted). takes_qubits o.bytes) l

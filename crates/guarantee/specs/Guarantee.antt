@@ -1,18 +1,18 @@
 -- Demand 3, the statement: "a single claim about the whole list, not one for each call". Everything it says is in this file and in the rules it names.
 -- Assumes nothing.
-use Rattle.std.specs.Prelude.{◌≡◌, Bool, true, false, cond, not, ◌||◌, List, [], ◌∷◌, ◌++◌, map, ℕ, ◌+◌, ◌≤◌, ◌<◌, ltb, eqb, ℤ, pos, negsuc, length, get_or}
+use Rattle.std.specs.Prelude.{◌≡◌, Bool, true, false, cond, not, ◌||◌, List, [], ◌∷◌, ◌++◌, map, ℕ, ◌+◌, ◌≤◌, ◌<◌, ltb, eqb, ℤ, pos, negsuc, length, get_or, Ok, Err}
 use Rattle.std.specs.Int.Signed.{lt_z}
 use Rattle.file.specs.Lists.{any_of, all_of, keep, member, add}
 use Rattle.file.specs.Records.{front, qubit_form, mask, empty_set}
 use Rattle.file.specs.declared.Refusal.TheVariants.{ShortBuffer}
 use Rattle.graph.specs.declared.NodeIndex.{NodeIndex}
 use Rattle.graph.specs.declared.CircuitDag.{CircuitDag}
-use Rattle.insertion.specs.declared.Answer.TheVariants.{Node, Refused}
 use Rattle.graph.specs.Dag.{absent, empty, size}
-use Rattle.links.specs.Links.{LoadingRule, NearAll, FarAll, rule_of, qubits}
+use Rattle.links.specs.Links.{rule_of, qubits}
+use Rattle.links.specs.declared.LoadingRule.{LoadingRule}
+use Rattle.links.specs.declared.LoadingRule.TheVariants.{NearAll, FarAll}
 use Rattle.insertion.specs.Limits.{insert_as, insert_by}
 use Rattle.insertion.specs.Calls.{Call, built, all_by, final_by}
-use Rattle.walk.specs.declared.BlockCount.TheVariants.{Blocks, Refused as NotWalked}
 use Rattle.walk.specs.Blocks.{block_of_step, whole_walk}
 
 -- an accepted record, its node number, its place
@@ -26,9 +26,9 @@ pub record Accepted : Type 0 where
 unfoldable pub accepted_from : CircuitDag → ℕ → ℕ → List Call → List Accepted
 accepted_from g b f [] = []
 accepted_from g b f (c ∷ l) = let s = c.bytes in let x = insert_by c.rule g s in elim x.answer [
-  | Node v ↦ record { node = b + f; place = cond (front s) (negsuc f) (pos b); bytes = s }
+  | Ok v ↦ record { node = b + f; place = cond (front s) (negsuc f) (pos b); bytes = s }
       ∷ accepted_from x.graph (cond (front s) b (b + 1)) (cond (front s) (f + 1) f) l
-  | Refused r ↦ accepted_from x.graph b f l
+  | Err r ↦ accepted_from x.graph b f l
 ]
 
 -- .. on the empty graph
@@ -100,12 +100,12 @@ pub record Guarantee (l : List Call) (buffer : List ℕ) : Type 0 where
   -- "Node numbers run from 0 in order of insertion." A call that accepts its record answers the number by which `accepted`, and so the
   -- walk's entries below, go: how many records were accepted before it.
   pub numbers : (before rest : List Call) (c : Call) (v : NodeIndex) → l ≡ before ++ (c ∷ rest)
-      → (insert_by c.rule (built before) c.bytes).answer ≡ Node v → v.0 ≡ length (accepted before)
+      → (insert_by c.rule (built before) c.bytes).answer ≡ Ok v → v.0 ≡ length (accepted before)
   -- The graph has a node for each accepted record and no other, so the entries of the walk are about just these.
   pub nodes : size (built l) ≡ length (accepted l)
   -- "The walk counts exactly the blocks it filled". The whole walk is not refused, and the count that it returns is how many different
   -- block numbers it wrote.
-  pub count : (whole_walk (built l) buffer).answer ≡ Blocks (filled l buffer)
+  pub count : (whole_walk (built l) buffer).answer ≡ Ok (filled l buffer)
   -- "each accepted qubit operation is in the block of exactly one step, its entry is that step's number, counted from 0". Of all steps t,
   -- however far one goes on, the operation is in the block of step t exactly if t is its entry: no pulse is lost, none fires twice.
   pub once : Each (λ o. (t : ℕ) → member o.node (block_of_step (built l) t) ≡ eqb t (entry l buffer o.node)) (operations l)
@@ -126,7 +126,7 @@ pub record Guarantee (l : List Call) (buffer : List ℕ) : Type 0 where
 -- Otherwise ..": the guarantee above holds.
 pub record Guaranteed (rule : LoadingRule) (Meets : List (List ℕ) → Type 0) : Type 0 where
   pub short : (l : List (List ℕ)) (buffer : List ℕ) → Meets l → length buffer < size (final_by rule l)
-      → (whole_walk (final_by rule l) buffer).answer ≡ NotWalked ShortBuffer
+      → (whole_walk (final_by rule l) buffer).answer ≡ Err ShortBuffer
   pub whole : (l : List (List ℕ)) (buffer : List ℕ) → Meets l → size (final_by rule l) ≤ length buffer → Guarantee (all_by rule l) buffer
 
 -- Demand 3: document 01's insertions, within the condition

@@ -6,10 +6,9 @@ use Rattle.file.specs.Refusals.{number_of}
 use Rattle.file.specs.declared.Refusal.{Refusal}
 use Rattle.file.specs.declared.Refusal.TheVariants.{FileTooShort, TooManyRecords, BadPair, BadRecord, TooManyNodes, TooManyEdges}
 use Rattle.file.specs.declared.Refusal.TheVariants.{TooManyRegisters, Absent, NotInLayer, ShortBuffer, Unsound, EmptySet}
-use Rattle.walk.specs.declared.BlockCount.{BlockCount}
-use Rattle.walk.specs.declared.BlockCount.TheVariants.{Blocks, Refused}
 use Rattle.host.specs.declared.HostAnswer.{HostAnswer}
-use Rattle.host.specs.Answers.{accepts, of_walk}
+use Rattle.host.specs.Answers.{accepts, of_count}
+use Rattle.std.specs.Prelude.{Result, Ok, Err}
 
 -- no refusal has the number 0
 not_0 : (r : Refusal) → number_of r ≡ 0 → ⊥
@@ -26,6 +25,6 @@ not_0 ShortBuffer e = omega arith
 not_0 Unsound e = omega arith
 not_0 (EmptySet i) e = omega arith
 
-pub walk_accepted : (x : BlockCount) (k : ℕ) → of_walk x ≡ accepts k → x ≡ Blocks k
-walk_accepted (Blocks j) k e = ap (λ (a : HostAnswer). Blocks a.value) e
-walk_accepted (Refused r) k e = absurd (not_0 r (ap (λ (a : HostAnswer). a.refusal) e))
+pub walk_accepted : (x : Result ℕ Refusal) (k : ℕ) → of_count x ≡ accepts k → x ≡ Ok k
+walk_accepted (Ok j) k e = ap (λ (a : HostAnswer). Ok a.value) e
+walk_accepted (Err r) k e = absurd (not_0 r (ap (λ (a : HostAnswer). a.refusal) e))

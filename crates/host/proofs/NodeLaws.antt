@@ -7,18 +7,20 @@ use Prim.Native.Nat.{ℕ, ◌≤◌, ◌<◌}
 use native.Mathlib.Omega.{arith}
 use lib.Dec.{leb}
 use borrow.Author.Tests.{leb-true, le-ltb}
-use Rattle.accessors.specs.declared.Got.TheVariants.{Refused as NotGot}
 use Rattle.accessors.specs.Accessors.{get}
 use Rattle.file.proofs.BoolLaws.{bool_cases, and_l}
 use Rattle.graph.specs.declared.CircuitDag.{CircuitDag}
 use Rattle.graph.specs.Dag.{size}
-use Rattle.graph.specs.Soundness.{sound}
+use Rattle.graph.specs.Soundness.{sound, check_sound}
+use Rattle.file.specs.declared.Refusal.{Refusal}
+use Rattle.queries.proofs.QueryLaws.{not_sound}
 use Rattle.graph.proofs.SoundnessLaws.{sound_clauses}
 use Rattle.queries.specs.Queries.{Lent, refuses, execution_blocked, blocking_predecessors, successors, new_front_layer}
 use Rattle.queries.proofs.QueryLaws.{successors_unsound, successors-absent, blocked_unsound, blocked_absent, predecessors_unsound}
 use Rattle.queries.proofs.QueryLaws.{predecessors_absent, layer_unsound, layer_absent}
 use Rattle.file.specs.declared.Refusal.TheVariants.{Absent, Unsound}
 use Rattle.host.specs.Answers.{HostLent, no_node, lent}
+use Rattle.std.specs.Prelude.{Err}
 
 few_nodes : (g : CircuitDag) → sound g ≡ true → size g ≤ 512
 few_nodes g h =
@@ -52,10 +54,10 @@ module _ (g : CircuitDag) (v : ℕ) (b : List ℕ) (h : 65535 < v) where
         (λ e. layer_absent g executed v b layer e (omega (arith, few_nodes g e)))
 
 -- .. and so does `get`
-pub got_unsound : (g : CircuitDag) (v : ℕ) → sound g ≡ false → NotGot Unsound ≡ get g v
+pub got_unsound : (g : CircuitDag) (v : ℕ) (c : Refusal) → check_sound g ≡ Err c → Err c ≡ get g v
 unfolding get
-got_unsound g v e = rw e refl
+got_unsound g v c e = let p = not_sound g c e in rw (p.0, p.1) refl
 
-pub got_beyond : (g : CircuitDag) (v : ℕ) → 65535 < v → sound g ≡ true → NotGot Absent ≡ get g v
+pub got_beyond : (g : CircuitDag) (v : ℕ) → 65535 < v → sound g ≡ true → Err Absent ≡ get g v
 unfolding get
 got_beyond g v h e = rw (e, le-ltb v (size g) (omega (arith, few_nodes g e))) refl

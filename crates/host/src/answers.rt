@@ -1,34 +1,18 @@
 // Each answer of the crates below as two numbers.
 ghost use Rattle.std.specs.Prelude.{◌≡◌};
-ghost use Rattle.host.specs.Answers.{number_or, accepts, refuses, no_node, of_query, of_inserted, of_loaded, of_step, of_walk, of_place, no_kept, of_got};
-ghost use Rattle.host.specs.Answers.{of_operation, no_operation};
+ghost use Rattle.host.specs.Answers.{accepts, refuses, no_node, of_count, of_inserted, of_loaded, of_step, of_place, no_kept, of_got, of_operation, no_operation};
 
 use crate::{HostAnswer, HostNode, HostPlace};
-use accessors::{Got, KeptNode, Operation};
-use file::{Outcome, Place, Refusal, RefusalValue};
-use graph::CircuitDag;
-use insertion::Answer;
-use queries::Query;
-use walk::{BlockCount, NextBlock};
-
-// A refusal's value.
-fn number_or(v: RefusalValue) -> usize
-    ensures { result ≡ number_or v }
-{
-    match v {
-        RefusalValue::Nothing => 65535,
-        RefusalValue::At(i) => i,
-    }
-}
+use accessors::KeptNode;
+use file::{Place, Refusal};
+use graph::{CircuitDag, NodeIndex, check_sound};
 
 pub(crate) fn refuse(x: Refusal) -> HostAnswer
     ensures { result ≡ refuses x }
 {
-    let number = file::refusal_number(x);
-    let v = file::refusal_value(x);
     HostAnswer {
-        refusal: number as usize,
-        value: number_or(v),
+        refusal: usize::from(file::refusal_number(x)),
+        value: file::refusal_value(x).unwrap_or(65535),
     }
 }
 
@@ -45,68 +29,59 @@ fn accept(n: usize) -> HostAnswer
 pub(crate) fn no_node(g: CircuitDag) -> HostAnswer
     ensures { result ≡ no_node g }
 {
-    if graph::is_sound(g) {
-        return refuse(Refusal::Absent);
+    match check_sound(g) {
+        Ok(()) => refuse(Refusal::Absent),
+        Err(c) => refuse(c),
     }
-    refuse(Refusal::Unsound)
 }
 
-pub(crate) fn of_query(x: Query) -> HostAnswer
-    ensures { result ≡ of_query x }
+pub(crate) fn of_count(x: Result<usize, Refusal>) -> HostAnswer
+    ensures { result ≡ of_count x }
 {
     match x {
-        Query::Entries(k) => accept(k),
-        Query::Refused(c) => refuse(c),
+        Ok(k) => accept(k),
+        Err(c) => refuse(c),
     }
 }
 
-pub(crate) fn of_inserted(x: Answer) -> HostAnswer
+pub(crate) fn of_inserted(x: Result<NodeIndex, Refusal>) -> HostAnswer
     ensures { result ≡ of_inserted x }
 {
     match x {
-        Answer::Node(v) => accept(v.0 as usize),
-        Answer::Refused(c) => refuse(c),
+        Ok(v) => accept(usize::from(v.0)),
+        Err(c) => refuse(c),
     }
 }
 
-pub(crate) fn of_loaded(x: Outcome) -> HostAnswer
+pub(crate) fn of_loaded(x: Result<(), Refusal>) -> HostAnswer
     ensures { result ≡ of_loaded x }
 {
     match x {
-        Outcome::Done => accept(0),
-        Outcome::Refused(c) => refuse(c),
+        Ok(()) => accept(0),
+        Err(c) => refuse(c),
     }
 }
 
-pub(crate) fn of_step(x: NextBlock) -> HostAnswer
+pub(crate) fn of_step(x: Result<Option<usize>, Refusal>) -> HostAnswer
     ensures { result ≡ of_step x }
 {
     match x {
-        NextBlock::Block(k) => accept(k),
-        NextBlock::None => accept(65535),
-        NextBlock::Refused(c) => refuse(c),
+        Ok(Some(k)) => accept(k),
+        Ok(None) => accept(65535),
+        Err(c) => refuse(c),
     }
 }
 
-pub(crate) fn of_walk(x: BlockCount) -> HostAnswer
-    ensures { result ≡ of_walk x }
-{
-    match x {
-        BlockCount::Blocks(k) => accept(k),
-        BlockCount::Refused(c) => refuse(c),
-    }
-}
-
-pub(crate) fn of_place(x: Place) -> HostPlace
+pub(crate) fn of_place(x: Result<Place, Refusal>) -> HostPlace
     ensures { result ≡ of_place x }
 {
     match x {
-        Place::At { offset, length } => HostPlace {
+        Ok(place) => HostPlace {
             answer: accept(0),
-            offset,
-            length,
+            offset: place.offset,
+            length: place.length,
         },
-        Place::Refused(c) => HostPlace {
+        Err(c) => HostPlace {
             answer: refuse(c),
             offset: 0,
             length: 0,
@@ -126,28 +101,28 @@ fn no_kept() -> KeptNode
     }
 }
 
-pub(crate) fn of_got(x: Got) -> HostNode
+pub(crate) fn of_got(x: Result<KeptNode, Refusal>) -> HostNode
     ensures { result ≡ of_got x }
 {
     match x {
-        Got::Node(node) => HostNode {
+        Ok(node) => HostNode {
             answer: accept(0),
             node,
         },
-        Got::Refused(c) => HostNode {
+        Err(c) => HostNode {
             answer: refuse(c),
             node: no_kept(),
         },
     }
 }
 
-pub(crate) fn of_operation(x: Operation) -> HostAnswer
+pub(crate) fn of_operation(x: Result<Option<NodeIndex>, Refusal>) -> HostAnswer
     ensures { result ≡ of_operation x }
 {
     match x {
-        Operation::Node(v) => accept(v.0 as usize),
-        Operation::None => accept(65535),
-        Operation::Refused(c) => refuse(c),
+        Ok(Some(v)) => accept(usize::from(v.0)),
+        Ok(None) => accept(65535),
+        Err(c) => refuse(c),
     }
 }
 
@@ -155,8 +130,5 @@ pub(crate) fn of_operation(x: Operation) -> HostAnswer
 pub(crate) fn no_operation(g: CircuitDag) -> HostAnswer
     ensures { result ≡ no_operation g }
 {
-    if graph::is_sound(g) {
-        return accept(65535);
-    }
-    refuse(Refusal::Unsound)
+    of_operation(check_sound(g).map(|()| None))
 }

@@ -4,7 +4,7 @@ ghost use Rattle.graph.specs.declared.CircuitDag.{CircuitDag};
 ghost use Rattle.planning.specs.Chain.{chain};
 ghost use Rattle.host.specs.Answers.{lent, on_dag};
 
-use crate::answers::{of_query, refuse};
+use crate::answers::{of_count, refuse};
 use crate::crossing::{dag_of, is_dag};
 use crate::{HostAnswer, HostDag};
 use file::Refusal;
@@ -14,9 +14,8 @@ pub extern "C" fn sawhekonu_chain(dag: HostDag, buffer: &mut [u16]) -> HostAnswe
     ensures { record { answer = result; buffer = buffer.new }
         ≡ on_dag dag buffer.old (λ (g : CircuitDag). lent (chain g buffer.old)) }
 {
-    if !is_dag(dag) {
+    if !is_dag(&dag) {
         return refuse(Refusal::Unsound);
     }
-    let x = planning::chain(dag_of(dag), buffer);
-    of_query(x)
+    of_count(planning::chain(dag_of(dag), buffer))
 }

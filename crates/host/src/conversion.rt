@@ -5,8 +5,8 @@ ghost use Rattle.queries.specs.Conversion.{to_circuit};
 ghost use Rattle.insertion.specs.Conversion.{from_circuit};
 ghost use Rattle.host.specs.Answers.{graph_loaded, lent, on_dag};
 
-use crate::answers::{of_loaded, of_query, refuse};
-use crate::crossing::{dag_of, host_dag, is_dag};
+use crate::answers::{of_count, of_loaded, refuse};
+use crate::crossing::{dag_of, is_dag};
 use crate::{HostAnswer, HostDag, HostGraph};
 use file::Refusal;
 
@@ -15,11 +15,9 @@ pub extern "C" fn sawhekonu_from_circuit(file: &[u8]) -> HostGraph
     ensures { result ≡ graph_loaded (from_circuit file.now) }
 {
     let x = insertion::from_circuit(file);
-    let graph = host_dag(x.graph);
-    let answer = x.answer;
     HostGraph {
-        answer: of_loaded(answer),
-        graph,
+        answer: of_loaded(x.answer),
+        graph: HostDag::from(x.graph),
     }
 }
 
@@ -28,9 +26,8 @@ pub extern "C" fn sawhekonu_to_circuit(dag: HostDag, buffer: &mut [u16]) -> Host
     ensures { record { answer = result; buffer = buffer.new }
         ≡ on_dag dag buffer.old (λ (g : CircuitDag). lent (to_circuit g buffer.old)) }
 {
-    if !is_dag(dag) {
+    if !is_dag(&dag) {
         return refuse(Refusal::Unsound);
     }
-    let x = queries::to_circuit(dag_of(dag), buffer);
-    of_query(x)
+    of_count(queries::to_circuit(dag_of(dag), buffer))
 }

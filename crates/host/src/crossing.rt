@@ -1,4 +1,5 @@
-// The graph and the walk as they cross to C: what came as ours, and ours as what goes.
+// The graph and the walk as they cross to C: what came as ours, and ours as what goes. What came is tested first, and then
+// taken as it is: TryFrom would move the 16 KB once more, out of its Result.
 ghost use Rattle.std.specs.Prelude.{◌≡◌};
 ghost use Rattle.host.specs.Marks.{end_of, host_end, is_dag, dag_of, host_of, is_walk, walk_of, host_walk};
 
@@ -8,119 +9,97 @@ use graph::{CircuitDag, End};
 use walk::ParallelBlocks;
 
 // Whether the bytes of both blocks are marks.
-pub(crate) fn is_dag(dag: HostDag) -> bool
-    ensures { result ≡ is_dag dag }
+#[tactic(auto, unfolding(crate::specs::Marks::is_dag))]
+pub(crate) fn is_dag(dag: &HostDag) -> bool
+    ensures { result ≡ is_dag dag.now }
 {
-    let first = dag.first.block;
-    let last = dag.last.block;
-    if are_marks(first) {
-        return are_marks(last);
-    }
-    false
+    are_marks(&dag.first.block) && are_marks(&dag.last.block)
 }
 
 fn end_of(end: HostEnd) -> End
     ensures { result ≡ end_of end }
 {
-    let node = end.node;
-    let all = end.all;
-    let block = end.block;
     End {
-        node,
-        all,
-        block: marks_of(block),
+        node: end.node,
+        all: end.all,
+        block: marks_of(&end.block),
     }
 }
 
+#[tactic(auto, unfolding(crate::specs::Marks::dag_of))]
 pub(crate) fn dag_of(dag: HostDag) -> CircuitDag
     ensures { result ≡ dag_of dag }
 {
-    let first = dag.first;
-    let last = dag.last;
-    let nodes = dag.nodes;
-    let edges = dag.edges;
-    let first_registers = dag.first_registers;
-    let last_registers = dag.last_registers;
-    let commuting = dag.commuting;
     CircuitDag {
-        nodes,
-        edges,
-        first: end_of(first),
-        last: end_of(last),
-        first_registers,
-        last_registers,
-        commuting,
+        nodes: dag.nodes,
+        edges: dag.edges,
+        first: end_of(dag.first),
+        last: end_of(dag.last),
+        first_registers: dag.first_registers,
+        last_registers: dag.last_registers,
+        commuting: dag.commuting,
         backs: dag.backs,
         fronts: dag.fronts,
     }
 }
 
-fn host_end(end: End) -> HostEnd
-    ensures { result ≡ host_end end }
-{
-    let node = end.node;
-    let all = end.all;
-    let block = end.block;
-    HostEnd {
-        node,
-        all,
-        block: bytes_of(block),
+impl From<End> for HostEnd {
+    ghost from_gives = { λ e r. r ≡ host_end e };
+
+    fn from(end: End) -> HostEnd {
+        HostEnd {
+            node: end.node,
+            all: end.all,
+            block: bytes_of(&end.block),
+        }
     }
 }
 
-pub(crate) fn host_dag(dag: CircuitDag) -> HostDag
-    ensures { result ≡ host_of dag }
-{
-    let first = dag.first;
-    let last = dag.last;
-    let nodes = dag.nodes;
-    let edges = dag.edges;
-    let first_registers = dag.first_registers;
-    let last_registers = dag.last_registers;
-    let commuting = dag.commuting;
-    HostDag {
-        nodes,
-        edges,
-        first: host_end(first),
-        last: host_end(last),
-        first_registers,
-        last_registers,
-        commuting,
-        backs: dag.backs,
-        fronts: dag.fronts,
+impl From<CircuitDag> for HostDag {
+    ghost from_gives = { λ g r. r ≡ host_of g };
+
+    #[tactic(auto, unfolding(crate::specs::Marks::host_of))]
+    fn from(dag: CircuitDag) -> HostDag {
+        HostDag {
+            nodes: dag.nodes,
+            edges: dag.edges,
+            first: HostEnd::from(dag.first),
+            last: HostEnd::from(dag.last),
+            first_registers: dag.first_registers,
+            last_registers: dag.last_registers,
+            commuting: dag.commuting,
+            backs: dag.backs,
+            fronts: dag.fronts,
+        }
     }
 }
 
 // Whether the bytes of both sets are marks.
-pub(crate) fn is_walk(walk: HostWalk) -> bool
-    ensures { result ≡ is_walk walk }
+#[tactic(auto, unfolding(crate::specs::Marks::is_walk))]
+pub(crate) fn is_walk(walk: &HostWalk) -> bool
+    ensures { result ≡ is_walk walk.now }
 {
-    let current = walk.current;
-    let executed = walk.executed;
-    if are_marks(current) {
-        return are_marks(executed);
-    }
-    false
+    are_marks(&walk.current) && are_marks(&walk.executed)
 }
 
+#[tactic(auto, unfolding(crate::specs::Marks::walk_of))]
 pub(crate) fn walk_of(walk: HostWalk) -> ParallelBlocks
     ensures { result ≡ walk_of walk }
 {
-    let current = walk.current;
-    let executed = walk.executed;
     ParallelBlocks {
-        current: marks_of(current),
-        executed: marks_of(executed),
+        current: marks_of(&walk.current),
+        executed: marks_of(&walk.executed),
     }
 }
 
-pub(crate) fn host_walk(walk: ParallelBlocks) -> HostWalk
-    ensures { result ≡ host_walk walk }
-{
-    let current = walk.current;
-    let executed = walk.executed;
-    HostWalk {
-        current: bytes_of(current),
-        executed: bytes_of(executed),
+impl From<ParallelBlocks> for HostWalk {
+    ghost from_gives = { λ w r. r ≡ host_walk w };
+
+    #[tactic(auto, unfolding(crate::specs::Marks::host_walk))]
+    fn from(walk: ParallelBlocks) -> HostWalk {
+        HostWalk {
+            current: bytes_of(&walk.current),
+            executed: bytes_of(&walk.executed),
+        }
     }
 }

@@ -2,13 +2,13 @@
 // function returned would be copied once more, a tenth of the instructions of a load of 64 records.
 ghost use Rattle.std.specs.Prelude.{◌≡◌};
 ghost use Rattle.graph.specs.Dag.{empty};
-ghost use Rattle.links.specs.Links.{FarAll};
+ghost use Rattle.links.specs.declared.LoadingRule.TheVariants.{FarAll};
 ghost use Rattle.insertion.specs.Load.{load_by, load};
 ghost use Rattle.host.specs.Answers.{graph_loaded, inserted_into, inserted_by};
 ghost use Rattle.host.specs.Marks.{host_of, host_sound};
 
 use crate::answers::{of_inserted, of_loaded, refuse};
-use crate::crossing::{dag_of, host_dag, is_dag};
+use crate::crossing::{dag_of, is_dag};
 use crate::{HostDag, HostGraph};
 use file::Refusal;
 use graph::CircuitDag;
@@ -19,19 +19,17 @@ pub extern "C" fn sawhekonu_new() -> HostDag
     ensures { result ≡ host_of empty }
 {
     let graph = CircuitDag::new();
-    host_dag(graph)
+    HostDag::from(graph)
 }
 
 #[unsafe(no_mangle)]
 pub extern "C" fn sawhekonu_load(file: &[u8]) -> HostGraph
     ensures { result ≡ graph_loaded (load file.now) }
 {
-    let x = insertion::load_by(links::NEAR_ALL, file);
-    let graph = host_dag(x.graph);
-    let answer = x.answer;
+    let x = insertion::load_by(LoadingRule::NearAll, file);
     HostGraph {
-        answer: of_loaded(answer),
-        graph,
+        answer: of_loaded(x.answer),
+        graph: HostDag::from(x.graph),
     }
 }
 
@@ -39,12 +37,10 @@ pub extern "C" fn sawhekonu_load(file: &[u8]) -> HostGraph
 pub extern "C" fn sawhekonu_load_both_ends(file: &[u8]) -> HostGraph
     ensures { result ≡ graph_loaded (load_by FarAll file.now) }
 {
-    let x = insertion::load_by(links::FAR_ALL, file);
-    let graph = host_dag(x.graph);
-    let answer = x.answer;
+    let x = insertion::load_by(LoadingRule::FarAll, file);
     HostGraph {
-        answer: of_loaded(answer),
-        graph,
+        answer: of_loaded(x.answer),
+        graph: HostDag::from(x.graph),
     }
 }
 
@@ -52,18 +48,16 @@ pub extern "C" fn sawhekonu_load_both_ends(file: &[u8]) -> HostGraph
 fn insert_record(rule: LoadingRule, dag: HostDag, part: &[u8]) -> HostGraph
     ensures { result ≡ inserted_by rule dag part.now }
 {
-    if !is_dag(dag) {
+    if !is_dag(&dag) {
         return HostGraph {
             answer: refuse(Refusal::Unsound),
             graph: dag,
         };
     }
     let x = insertion::insert_by(rule, dag_of(dag), part);
-    let graph = host_dag(x.graph);
-    let answer = x.answer;
     HostGraph {
-        answer: of_inserted(answer),
-        graph,
+        answer: of_inserted(x.answer),
+        graph: HostDag::from(x.graph),
     }
 }
 
@@ -71,21 +65,21 @@ fn insert_record(rule: LoadingRule, dag: HostDag, part: &[u8]) -> HostGraph
 pub extern "C" fn sawhekonu_insert(dag: HostDag, part: &[u8]) -> HostGraph
     ensures { result ≡ inserted_into dag part.now }
 {
-    insert_record(links::NEAR_ALL, dag, part)
+    insert_record(LoadingRule::NearAll, dag, part)
 }
 
 #[unsafe(no_mangle)]
 pub extern "C" fn sawhekonu_insert_both_ends(dag: HostDag, part: &[u8]) -> HostGraph
     ensures { result ≡ inserted_by FarAll dag part.now }
 {
-    insert_record(links::FAR_ALL, dag, part)
+    insert_record(LoadingRule::FarAll, dag, part)
 }
 
 #[unsafe(no_mangle)]
 pub extern "C" fn sawhekonu_is_sound(dag: HostDag) -> bool
     ensures { result ≡ host_sound dag }
 {
-    if !is_dag(dag) {
+    if !is_dag(&dag) {
         return false;
     }
     graph::is_sound(dag_of(dag))

@@ -4,7 +4,7 @@ ghost use Rattle.graph.specs.declared.CircuitDag.{CircuitDag};
 ghost use Rattle.queries.specs.Queries.{execution_blocked, blocking_predecessors, successors, new_front_layer};
 ghost use Rattle.host.specs.Answers.{lent, on_dag};
 
-use crate::answers::{no_node, of_query, refuse};
+use crate::answers::{no_node, of_count, refuse};
 use crate::crossing::{dag_of, is_dag};
 use crate::{HostAnswer, HostDag};
 use file::Refusal;
@@ -20,14 +20,13 @@ pub extern "C" fn sawhekonu_execution_blocked(
     ensures { record { answer = result; buffer = buffer.new }
         ≡ on_dag dag buffer.old (λ (g : CircuitDag). lent (execution_blocked g executed.now node buffer.old)) }
 {
-    if !is_dag(dag) {
+    if !is_dag(&dag) {
         return refuse(Refusal::Unsound);
     }
-    if 65535 < node {
+    let Ok(v) = u16::try_from(node) else {
         return no_node(dag_of(dag));
-    }
-    let x = queries::execution_blocked(dag_of(dag), executed, NodeIndex(node as u16), buffer);
-    of_query(x)
+    };
+    of_count(queries::execution_blocked(dag_of(dag), executed, NodeIndex(v), buffer))
 }
 
 #[unsafe(no_mangle)]
@@ -40,14 +39,13 @@ pub extern "C" fn sawhekonu_blocking_predecessors(
     ensures { record { answer = result; buffer = buffer.new }
         ≡ on_dag dag buffer.old (λ (g : CircuitDag). lent (blocking_predecessors g executed.now node buffer.old)) }
 {
-    if !is_dag(dag) {
+    if !is_dag(&dag) {
         return refuse(Refusal::Unsound);
     }
-    if 65535 < node {
+    let Ok(v) = u16::try_from(node) else {
         return no_node(dag_of(dag));
-    }
-    let x = queries::blocking_predecessors(dag_of(dag), executed, NodeIndex(node as u16), buffer);
-    of_query(x)
+    };
+    of_count(queries::blocking_predecessors(dag_of(dag), executed, NodeIndex(v), buffer))
 }
 
 #[unsafe(no_mangle)]
@@ -55,14 +53,13 @@ pub extern "C" fn sawhekonu_successors(dag: HostDag, node: usize, buffer: &mut [
     ensures { record { answer = result; buffer = buffer.new }
         ≡ on_dag dag buffer.old (λ (g : CircuitDag). lent (successors g node buffer.old)) }
 {
-    if !is_dag(dag) {
+    if !is_dag(&dag) {
         return refuse(Refusal::Unsound);
     }
-    if 65535 < node {
+    let Ok(v) = u16::try_from(node) else {
         return no_node(dag_of(dag));
-    }
-    let x = queries::successors(dag_of(dag), NodeIndex(node as u16), buffer);
-    of_query(x)
+    };
+    of_count(queries::successors(dag_of(dag), NodeIndex(v), buffer))
 }
 
 #[unsafe(no_mangle)]
@@ -77,12 +74,11 @@ pub extern "C" fn sawhekonu_new_front_layer(
         ≡ on_dag dag buffer.old (λ (g : CircuitDag).
         lent (new_front_layer g executed.now layer.now node buffer.old)) }
 {
-    if !is_dag(dag) {
+    if !is_dag(&dag) {
         return refuse(Refusal::Unsound);
     }
-    if 65535 < node {
+    let Ok(v) = u16::try_from(node) else {
         return no_node(dag_of(dag));
-    }
-    let x = queries::new_front_layer(dag_of(dag), executed, layer, NodeIndex(node as u16), buffer);
-    of_query(x)
+    };
+    of_count(queries::new_front_layer(dag_of(dag), executed, layer, NodeIndex(v), buffer))
 }

@@ -1,11 +1,11 @@
 // From a circuit file to its block numbers.
 ghost use Rattle.std.specs.Prelude.{◌≡◌, ℕ};
-ghost use Rattle.links.specs.Links.{FarAll};
+ghost use Rattle.links.specs.declared.LoadingRule.TheVariants.{FarAll};
 ghost use Rattle.schedule.specs.Schedule.{schedule_by, schedule, Condition, Scheduled, ScheduledBy};
 ghost use Rattle.host.specs.Answers.{accepts, walked};
 
 use crate::HostAnswer;
-use crate::answers::of_walk;
+use crate::answers::of_count;
 
 #[unsafe(no_mangle)]
 pub extern "C" fn sawhekonu_schedule(file: &[u8], buffer: &mut [u16]) -> HostAnswer
@@ -13,7 +13,7 @@ pub extern "C" fn sawhekonu_schedule(file: &[u8], buffer: &mut [u16]) -> HostAns
     ensures promise { (k : ℕ) → result ≡ accepts k → Condition file.now → Scheduled file.now k buffer.new }
 {
     let x = schedule::schedule(file, buffer);
-    of_walk(x)
+    of_count(x)
 }
 
 #[unsafe(no_mangle)]
@@ -22,5 +22,5 @@ pub extern "C" fn sawhekonu_schedule_both_ends(file: &[u8], buffer: &mut [u16]) 
     ensures promise { (k : ℕ) → result ≡ accepts k → ScheduledBy FarAll file.now k buffer.new }
 {
     let x = schedule::schedule_both_ends(file, buffer);
-    of_walk(x)
+    of_count(x)
 }

@@ -4,8 +4,8 @@ ghost use Rattle.graph.specs.declared.CircuitDag.{CircuitDag};
 ghost use Rattle.walk.specs.Blocks.{whole_walk};
 ghost use Rattle.host.specs.Answers.{on_dag, stepped_from, walked};
 
-use crate::answers::{no_node, of_step, of_walk, refuse};
-use crate::crossing::{dag_of, host_walk, is_dag, is_walk, walk_of};
+use crate::answers::{no_node, of_count, of_step, refuse};
+use crate::crossing::{dag_of, is_dag, is_walk, walk_of};
 use crate::{HostAnswer, HostDag, HostStep, HostWalk};
 use file::Refusal;
 
@@ -14,25 +14,23 @@ pub extern "C" fn sawhekonu_next(dag: HostDag, state: HostWalk, buffer: &mut [u1
     ensures { record { answer = result.answer; walk = result.walk; buffer = buffer.new }
         ≡ stepped_from dag state buffer.old }
 {
-    if !is_dag(dag) {
+    if !is_dag(&dag) {
         return HostStep {
             answer: refuse(Refusal::Unsound),
             walk: state,
         };
     }
-    if !is_walk(state) {
+    if !is_walk(&state) {
         return HostStep {
             answer: no_node(dag_of(dag)),
             walk: state,
         };
     }
-    let w = walk_of(state);
-    let x = w.next(dag_of(dag), buffer);
-    let answer = x.answer;
-    let walk = x.walk;
+    let mut walk = walk_of(state);
+    let answer = of_step(walk.next(dag_of(dag), buffer));
     HostStep {
-        answer: of_step(answer),
-        walk: host_walk(walk),
+        answer,
+        walk: HostWalk::from(walk),
     }
 }
 
@@ -41,9 +39,8 @@ pub extern "C" fn sawhekonu_whole_walk(dag: HostDag, buffer: &mut [u16]) -> Host
     ensures { record { answer = result; buffer = buffer.new }
         ≡ on_dag dag buffer.old (λ (g : CircuitDag). walked (whole_walk g buffer.old)) }
 {
-    if !is_dag(dag) {
+    if !is_dag(&dag) {
         return refuse(Refusal::Unsound);
     }
-    let x = walk::whole_walk(dag_of(dag), buffer);
-    of_walk(x)
+    of_count(walk::whole_walk(dag_of(dag), buffer))
 }

@@ -5,15 +5,13 @@ use mathlib.Core.List.{List, [], ◌∷◌}
 use Prim.Native.Nat.{ℕ}
 use Rattle.file.specs.Lists.{keep, up_to}
 use Rattle.file.specs.Pairs.{count_of, check_file, record_at}
-use Rattle.file.specs.declared.FileCheck.{FileCheck}
-use Rattle.file.specs.declared.FileCheck.TheVariants.{Sound, Refused as BadFile}
 use Rattle.graph.specs.declared.CircuitDag.{CircuitDag}
 use Rattle.graph.specs.Dag.{empty}
 use Rattle.queries.proofs.CircuitTheorems.{circuit_whole, circuit_in_order}
-use Rattle.links.specs.Links.{FarRule, near_all, LoadingRule, rule_of}
+use Rattle.links.specs.Links.{FarRule, near_all, rule_of}
+use Rattle.links.specs.declared.LoadingRule.{LoadingRule}
+use Rattle.links.specs.declared.LoadingRule.TheVariants.{NearAll}
 use Rattle.links.proofs.LinkLaws.{NamesAll, names_all}
-use Rattle.insertion.specs.declared.Answer.{Answer}
-use Rattle.insertion.specs.declared.Answer.TheVariants.{Node, Refused}
 use Rattle.insertion.specs.declared.Inserted.{Inserted}
 use Rattle.insertion.specs.declared.Loaded.{Loaded}
 use Rattle.insertion.specs.Limits.{insert_as}
@@ -21,6 +19,9 @@ use Rattle.insertion.specs.Load.{not_loaded, insert_records, load_checked, load_
 use Rattle.insertion.specs.Conversion.{broken, insertion_order, convert, convert_checked, from_circuit}
 use Rattle.insertion.specs.Circuits.{WholeInOrder, CircuitsBuilt}
 use Rattle.insertion.proofs.BuiltLaws.{Safe, safe_sound, safe_empty, safe_as, safe_built}
+use Rattle.file.specs.declared.Refusal.{Refusal}
+use Rattle.graph.specs.declared.NodeIndex.{NodeIndex}
+use Rattle.std.specs.Prelude.{Result, Ok, Err, ⊤}
 
 whole_in_order : (g : CircuitDag) → Safe false g → WholeInOrder g
 whole_in_order g G = record { whole = circuit_whole g G.nodes.known; in_order = circuit_in_order g (safe_sound g G) }
@@ -35,30 +36,30 @@ module _ (s : List ℕ) where
       x : Inserted
       x = insert_as rule i g (record_at s i)
 
-      next : (a : Answer) → Safe false (insert_records rule s x.graph l).graph
-          → Safe false (elim a as (λ y. Loaded) [ Node v ↦ insert_records rule s x.graph l | Refused r ↦ not_loaded r ]).graph
-      next (Node v) S = S
-      next (Refused r) S = safe_empty
+      next : (a : Result NodeIndex Refusal) → Safe false (insert_records rule s x.graph l).graph
+          → Safe false (elim a as (λ y. Loaded) [ Ok v ↦ insert_records rule s x.graph l | Err r ↦ not_loaded r ]).graph
+      next (Ok v) S = S
+      next (Err r) S = safe_empty
 
   safe_load : (rule : LoadingRule) → Safe false (load_by rule s).graph
   unfolding load_by
   safe_load rule = checked (check_file s)
     where
-      checked : (c : FileCheck) → Safe false (load_checked (rule_of rule) c s).graph
-      checked (BadFile r) = safe_empty
-      checked Sound = safe_records (rule_of rule) (names_all rule) (up_to (count_of s)) empty safe_empty
+      checked : (c : Result ⊤ Refusal) → Safe false (load_checked (rule_of rule) c s).graph
+      checked (Err r) = safe_empty
+      checked (Ok _) = safe_records (rule_of rule) (names_all rule) (up_to (count_of s)) empty safe_empty
 
   safe_conversion : Safe false (from_circuit s).graph
   unfolding from_circuit
   safe_conversion = checked (check_file s)
     where
       listed : (l : List ℕ) → Safe false (convert s l).graph
-      listed [] = safe_records near_all (names_all false) (insertion_order s) empty safe_empty
+      listed [] = safe_records near_all (names_all NearAll) (insertion_order s) empty safe_empty
       listed (i ∷ l) = safe_empty
 
-      checked : (c : FileCheck) → Safe false (convert_checked c s).graph
-      checked (BadFile r) = safe_empty
-      checked Sound = listed (keep (broken s) (up_to (count_of s)))
+      checked : (c : Result ⊤ Refusal) → Safe false (convert_checked c s).graph
+      checked (Err r) = safe_empty
+      checked (Ok _) = listed (keep (broken s) (up_to (count_of s)))
 
 pub circuits_built : CircuitsBuilt
 circuits_built = record {

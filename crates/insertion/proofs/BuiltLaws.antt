@@ -24,8 +24,8 @@ use Rattle.graph.specs.Soundness.{place_within, sound}
 use Rattle.graph.proofs.ListLaws.{all_same}
 use Rattle.file.proofs.BoolLaws.{clash_bool, or_l, or_r}
 use Rattle.graph.proofs.SoundnessLaws.{NamesFit, RegistersFit, registers_told, told_sound}
-use Rattle.insertion.specs.declared.Answer.TheVariants.{Refused}
-use Rattle.links.specs.Links.{Linked, FarRule, LoadingRule, rule_of}
+use Rattle.links.specs.Links.{Linked, FarRule, rule_of}
+use Rattle.links.specs.declared.LoadingRule.{LoadingRule}
 use Rattle.insertion.specs.Insertion.{facing, place_after, linked, registered, commutes, extended, grown}
 use Rattle.insertion.specs.Limits.{insert_as, insert_by}
 use Rattle.insertion.specs.Calls.{Call, graph_after, built}
@@ -37,6 +37,7 @@ use Rattle.insertion.proofs.SafeEdges.{between, lies, link_rises, EdgesSafe, Mee
 use Rattle.insertion.proofs.SafeNodes.{operates, record_kind, record_operates, NodesSafe, operates_at, place_at, operates_same}
 use Rattle.insertion.proofs.SafeNodes.{operates_here, place_same, place_here, nodes_more, CommutingSafe, commuting_more, RegistersSafe}
 use Rattle.insertion.proofs.SafeNodes.{registers_more}
+use Rattle.std.specs.Prelude.{Err}
 
 -- ---- what every built graph keeps
 
@@ -291,8 +292,8 @@ module _ (rule : FarRule) (i : ℕ) (g : CircuitDag) (s : List ℕ) where
       (λ t. safe_grown rule names g s G (not-passed rule (front s) g s (good_keeps s t.whole) t.free t.room t.fit))
 
   -- "4 to 7", and K2's 12
-  as_refused : (insert_as rule i g s).answer ≡ Refused Unsound → ⊥
-  as_refused = insert_cases rule g s i (λ x. x.answer ≡ Refused Unsound → ⊥)
+  as_refused : (insert_as rule i g s).answer ≡ Err Unsound → ⊥
+  as_refused = insert_cases rule g s i (λ x. x.answer ≡ Err Unsound → ⊥)
       (λ r c e. never_unsound rule g s i r c cc)
       (λ t e. let z : ◌≡◌ {A = ℕ} 0 1 = cc in omega arith)
 

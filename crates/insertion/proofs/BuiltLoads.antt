@@ -14,33 +14,32 @@ use lib.Seq.{take-suc, take_all, drop-cons}
 use Rattle.file.specs.Lists.{keep, up_to}
 use Rattle.file.specs.Pairs.{count_of, check_file, record_at}
 use Rattle.file.specs.Refusals.{at_record}
-use Rattle.file.specs.declared.FileCheck.{FileCheck}
-use Rattle.file.specs.declared.FileCheck.TheVariants.{Sound, Refused as BadFile}
 use Rattle.file.specs.declared.Refusal.{Refusal}
 use Rattle.file.proofs.RecordLaws.{at_again}
 use Rattle.insertion.proofs.CaseLaws.{Taken, Cause, taken-or-refused, taken_inserts, cause_refuses}
 use Rattle.graph.specs.declared.CircuitDag.{CircuitDag}
 use Rattle.graph.specs.Dag.{empty}
 use Rattle.graph.proofs.ListLaws.{map_at}
-use Rattle.insertion.specs.declared.Answer.{Answer}
-use Rattle.insertion.specs.declared.Answer.TheVariants.{Node, Refused}
 use Rattle.insertion.specs.declared.Inserted.{Inserted}
-use Rattle.file.specs.declared.Outcome.TheVariants.{Done}
 use Rattle.insertion.specs.declared.Loaded.{Loaded}
-use Rattle.links.specs.Links.{FarRule, LoadingRule, NearAll, rule_of}
+use Rattle.links.specs.Links.{FarRule, rule_of}
+use Rattle.links.specs.declared.LoadingRule.{LoadingRule}
+use Rattle.links.specs.declared.LoadingRule.TheVariants.{NearAll}
 use Rattle.insertion.specs.Limits.{accepts, insert_as, insert_by, refused}
 use Rattle.insertion.specs.Load.{not_loaded, insert_records, load_checked, load_by}
 use Rattle.insertion.specs.Calls.{graph_after, all_by, final_by}
 use Rattle.insertion.specs.Conversion.{broken, insertion_order, convert, convert_checked, from_circuit}
 use Rattle.insertion.specs.Built.{records_in, step_in, Inserts, LoadInserts, ConversionInserts}
 use Rattle.insertion.proofs.BuiltLaws.{sound-built}
+use Rattle.graph.specs.declared.NodeIndex.{NodeIndex}
+use Rattle.std.specs.Prelude.{Result, Ok, Err, ⊤}
 
 -- ---- one record
 
 -- an insertion's answer with the record's number
-abbrev numbered : ℕ → Answer → Answer
-numbered i (Node v) = Node v
-numbered i (Refused r) = Refused (at_record i r)
+abbrev numbered : ℕ → Result NodeIndex Refusal → Result NodeIndex Refusal
+numbered i (Ok v) = Ok v
+numbered i (Err r) = Err (at_record i r)
 
 -- the same graph, with the answer numbered
 abbrev as_record : ℕ → Inserted → Inserted
@@ -66,24 +65,24 @@ after_last rule (x ∷ l) g b = after_last rule l (insert_by rule g x).graph b
 
 -- what insert_records makes of an insertion, with the records of l left
 abbrev goes_on : FarRule → List ℕ → List ℕ → Inserted → Loaded
-goes_on rule s l x = elim x.answer [ Node v ↦ insert_records rule s x.graph l | Refused r ↦ not_loaded r ]
+goes_on rule s l x = elim x.answer [ Ok v ↦ insert_records rule s x.graph l | Err r ↦ not_loaded r ]
 
 next_record : (rule : FarRule) (s : List ℕ) (g : CircuitDag) (i : ℕ) (l : List ℕ) → insert_records rule s g (i ∷ l) ≡ goes_on rule s l (insert_as rule i g (record_at s i))
 unfolding insert_records
 next_record rule s g i l = refl
 
 -- the number makes no difference to an accepted record ..
-goes_on_lem : (rule : FarRule) (s l : List ℕ) (i : ℕ) (a : Answer) (g : CircuitDag) → accepts a ≡ true → goes_on rule s l (record { answer = numbered i a; graph = g }) ≡ insert_records rule s g l
-goes_on_lem rule s l i (Node v) g h = refl
-goes_on_lem rule s l i (Refused r) g h = let z : ◌≡◌ {A = ℕ} 0 1 = cc in absurd (omega arith)
+goes_on_lem : (rule : FarRule) (s l : List ℕ) (i : ℕ) (a : Result NodeIndex Refusal) (g : CircuitDag) → accepts a ≡ true → goes_on rule s l (record { answer = numbered i a; graph = g }) ≡ insert_records rule s g l
+goes_on_lem rule s l i (Ok v) g h = refl
+goes_on_lem rule s l i (Err r) g h = let z : ◌≡◌ {A = ℕ} 0 1 = cc in absurd (omega arith)
 
 -- .. and stands in a refused one's answer
-stops : (rule : FarRule) (s l : List ℕ) (i : ℕ) (a : Answer) (g : CircuitDag) (r : Refusal) → a ≡ Refused r → goes_on rule s l (record { answer = numbered i a; graph = g }) ≡ not_loaded (at_record i r)
-stops rule s l i a g r h = ap (λ (b : Answer). goes_on rule s l (record { answer = numbered i b; graph = g })) h
+stops : (rule : FarRule) (s l : List ℕ) (i : ℕ) (a : Result NodeIndex Refusal) (g : CircuitDag) (r : Refusal) → a ≡ Err r → goes_on rule s l (record { answer = numbered i a; graph = g }) ≡ not_loaded (at_record i r)
+stops rule s l i a g r h = ap (λ (b : Result NodeIndex Refusal). goes_on rule s l (record { answer = numbered i b; graph = g })) h
 
 -- an accepted load with the graph after these insertions
 abbrev done : LoadingRule → List (List ℕ) → Loaded
-done rule l = record { answer = Done; graph = final_by rule l }
+done rule l = record { answer = (Ok tt); graph = final_by rule l }
 
 module _ (rule : LoadingRule) (s order : List ℕ) where
   abbrev records : List (List ℕ)
@@ -127,7 +126,7 @@ module _ (rule : LoadingRule) (s order : List ℕ) where
       ∙ goes_on_lem (rule_of rule) s (drop (k + 1) order) (number k) (step_in rule s order k).answer (step_in rule s order k).graph e
       ∙ ap (λ (g : CircuitDag). insert_records (rule_of rule) s g (drop (k + 1) order)) (sym (graph_next k h))
 
-  refused_stops : (k : ℕ) (r : Refusal) → k < length order → (step_in rule s order k).answer ≡ Refused r → left k ≡ not_loaded (at_record (number k) r)
+  refused_stops : (k : ℕ) (r : Refusal) → k < length order → (step_in rule s order k).answer ≡ Err r → left k ≡ not_loaded (at_record (number k) r)
   refused_stops k r h e = turn k h ∙ stops (rule_of rule) s (drop (k + 1) order) (number k) (step_in rule s order k).answer (step_in rule s order k).graph r e
 
   -- ---- all of them
@@ -156,19 +155,19 @@ module _ (rule : LoadingRule) (s order : List ℕ) where
   all_done : Accepted (length order) → whole ≡ done rule records
   all_done a = reaches (length order) (omega arith) a ∙ ends
 
-  refuses : (k : ℕ) (r : Refusal) → k < length order → Accepted k → (step_in rule s order k).answer ≡ Refused r → whole ≡ not_loaded (at_record (number k) r)
+  refuses : (k : ℕ) (r : Refusal) → k < length order → Accepted k → (step_in rule s order k).answer ≡ Err r → whole ≡ not_loaded (at_record (number k) r)
   refuses k r h a q = reaches k (omega arith) a ∙ refused_stops k r h q
 
   -- where all is accepted, no record is the first one refused ..
-  not-refused : whole.answer ≡ Done → (k : ℕ) → k < length order → Accepted k → (x : Answer) → (step_in rule s order k).answer ≡ x → accepts x ≡ true
-  not-refused d k h a (Node v) q = refl
-  not-refused d k h a (Refused r) q =
+  not-refused : whole.answer ≡ Ok tt → (k : ℕ) → k < length order → Accepted k → (x : Result NodeIndex Refusal) → (step_in rule s order k).answer ≡ x → accepts x ≡ true
+  not-refused d k h a (Ok v) q = refl
+  not-refused d k h a (Err r) q =
       let t = refuses k r h a q in
       let z : ◌≡◌ {A = ℕ} 0 1 = cc in
       absurd (omega arith)
 
   -- .. so each is accepted
-  accepted : whole.answer ≡ Done → (k : ℕ) → k ≤ length order → Accepted k
+  accepted : whole.answer ≡ Ok tt → (k : ℕ) → k ≤ length order → Accepted k
   accepted d zero h j l = absurd (omega arith)
   accepted d (suc k) h j l =
       let a : Accepted k = accepted d k (omega arith) in
@@ -190,24 +189,24 @@ pub load_inserts : (rule : LoadingRule) (s : List ℕ) → LoadInserts rule s
 unfolding load_by
 load_inserts rule s = record {
   sound = checked (check_file s);
-  inserts = λ e. inserts rule s (up_to (count_of s)) (load_by rule s) (ap (λ (c : FileCheck). load_checked (rule_of rule) c s) e);
+  inserts = λ e. inserts rule s (up_to (count_of s)) (load_by rule s) (ap (λ (c : Result ⊤ Refusal). load_checked (rule_of rule) c s) e);
 }
   where
-    checked : (c : FileCheck) → (load_checked (rule_of rule) c s).answer ≡ Done → c ≡ Sound
-    checked Sound h = refl
-    checked (BadFile r) h = let z : ◌≡◌ {A = ℕ} 0 1 = cc in absurd (omega arith)
+    checked : (c : Result ⊤ Refusal) → (load_checked (rule_of rule) c s).answer ≡ Ok tt → c ≡ Ok tt
+    checked (Ok _) h = refl
+    checked (Err r) h = let z : ◌≡◌ {A = ℕ} 0 1 = cc in absurd (omega arith)
 
 pub conversion_inserts : (s : List ℕ) → ConversionInserts s
 unfolding from_circuit
 conversion_inserts s = record {
   sound = checked (check_file s);
-  inserts = λ e b. inserts NearAll s (insertion_order s) (from_circuit s) (ap (λ (c : FileCheck). convert_checked c s) e ∙ ap (convert s) b);
+  inserts = λ e b. inserts NearAll s (insertion_order s) (from_circuit s) (ap (λ (c : Result ⊤ Refusal). convert_checked c s) e ∙ ap (convert s) b);
 }
   where
-    listed : (l : List ℕ) → (convert s l).answer ≡ Done → l ≡ []
+    listed : (l : List ℕ) → (convert s l).answer ≡ Ok tt → l ≡ []
     listed [] h = refl
     listed (i ∷ l) h = let z : ◌≡◌ {A = ℕ} 0 1 = cc in absurd (omega arith)
 
-    checked : (c : FileCheck) → (convert_checked c s).answer ≡ Done → (c ≡ Sound) × (keep (broken s) (up_to (count_of s)) ≡ [])
-    checked Sound h = (refl, listed (keep (broken s) (up_to (count_of s))) h)
-    checked (BadFile r) h = let z : ◌≡◌ {A = ℕ} 0 1 = cc in absurd (omega arith)
+    checked : (c : Result ⊤ Refusal) → (convert_checked c s).answer ≡ Ok tt → (c ≡ Ok tt) × (keep (broken s) (up_to (count_of s)) ≡ [])
+    checked (Ok _) h = (refl, listed (keep (broken s) (up_to (count_of s))) h)
+    checked (Err r) h = let z : ◌≡◌ {A = ℕ} 0 1 = cc in absurd (omega arith)

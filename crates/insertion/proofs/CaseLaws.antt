@@ -16,10 +16,10 @@ use Rattle.file.specs.declared.Refusal.TheVariants.{TooManyNodes, TooManyEdges, 
 use Rattle.graph.specs.declared.CircuitDag.{CircuitDag}
 use Rattle.graph.specs.Dag.{node, size}
 use Rattle.links.specs.Links.{FarRule}
-use Rattle.insertion.specs.declared.Answer.TheVariants.{Node}
 use Rattle.insertion.specs.declared.Inserted.{Inserted}
 use Rattle.insertion.specs.Insertion.{grown}
 use Rattle.insertion.specs.Limits.{refused, edges_pass, registers_pass, insert_as}
+use Rattle.std.specs.Prelude.{Ok}
 
 -- no test cause_refuses the record s on the graph g
 pub record Taken (rule : FarRule) (g : CircuitDag) (s : List ℕ) : Type 0 where
@@ -39,7 +39,7 @@ pub data Cause (rule : FarRule) (g : CircuitDag) (s : List ℕ) (r : Refusal) : 
 module _ (rule : FarRule) (g : CircuitDag) (s : List ℕ) where
   -- the graph after the record, and the node's number
   abbrev pub accepted : Inserted
-  accepted = record { answer = Node (node (size g)); graph = grown rule g s }
+  accepted = record { answer = Ok (node (size g)); graph = grown rule g s }
 
   -- one of the two
   pub taken-or-refused : Taken rule g s ⊎ ((r : Refusal) × Cause rule g s r)

@@ -19,15 +19,13 @@ use Rattle.graph.specs.Soundness.{sound, named, if_present, register_map_rule}
 use Rattle.file.proofs.BoolLaws.{and_l, and_r}
 use Rattle.graph.proofs.SizeLaws.{DagSized}
 use Rattle.graph.proofs.SoundnessLaws.{Sound, sound_told, sound_clauses, all_left, all_right}
-use Rattle.file.specs.declared.Outcome.{Outcome}
-use Rattle.file.specs.declared.Outcome.TheVariants.{Done, Refused}
 use Rattle.links.specs.declared.LinkedRecords.{LinkedRecords}
-use Rattle.links.specs.Links.{FarRule, LoadingRule, rule_of}
+use Rattle.links.specs.Links.{FarRule, rule_of}
+use Rattle.links.specs.declared.LoadingRule.{LoadingRule}
 use Rattle.links.specs.Linking.{links_fit, links_stopped, link_record, links_kept, link_node}
 use Rattle.links.proofs.LinkingLaws.{when_done}
 use Rattle.registers.specs.declared.Registered.{Registered}
 use Rattle.registers.specs.Registers.{maps_after, maps_pass, stored, maps_kept, register_record}
-use Rattle.insertion.specs.declared.Answer.TheVariants.{Node}
 use Rattle.insertion.specs.declared.Inserted.{Inserted}
 use Rattle.insertion.specs.declared.nodes.NodeLists.{NodeLists}
 use Rattle.insertion.specs.Insertion.{commutes, grown}
@@ -36,6 +34,7 @@ use Rattle.insertion.specs.Parts.{node_lists, node_after, assembled}
 use Rattle.insertion.proofs.CaseLaws.{nodes, edges, entries, taken_inserts, cause_refuses}
 use Rattle.insertion.proofs.PartLaws.{links_of, maps_of, not_both, links_full, links_over, links-grown, maps-pass}
 use Rattle.insertion.proofs.PartLaws.{registers-at, nodes_at}
+use Rattle.std.specs.Prelude.{Result, Ok, Err, ⊤}
 
 -- m numbers below n that rise are no more than n
 rising : (f : ℕ → ℕ) (m : ℕ) → ((i j : ℕ) → i < j → j < m → f i < f j) → (i : ℕ) → i < m → i ≤ f i
@@ -102,11 +101,11 @@ module _ (rule : FarRule) (i : ℕ) (g : CircuitDag) (b : List ℕ) (keeps : goo
   once = link_record rule i (front b) (qubits_of b) (links_of g)
 
   -- a refusal by the links
-  pub link-refused : (c : Refusal) → once.answer ≡ Refused c → refused c g ≡ insert_as rule i g b
+  pub link-refused : (c : Refusal) → once.answer ≡ Err c → refused c g ≡ insert_as rule i g b
   link-refused c e = by_limits (leb 512 (size g)) (edges_pass rule g b) refl refl
     where
       same : (d : Refusal) → once ≡ links_stopped (size g) d → insert_as rule i g b ≡ refused d g → refused c g ≡ insert_as rule i g b
-      same d q r = let w : Refused d ≡ Refused c = rw q at e in let y : d ≡ c = cc in ap (λ (x : Refusal). refused x g) (sym y) ∙ sym r
+      same d q r = let w : Err d ≡ Err c = rw q at e in let y : d ≡ c = cc in ap (λ (x : Refusal). refused x g) (sym y) ∙ sym r
 
       by_limits : (p q : Bool) → leb 512 (size g) ≡ p → edges_pass rule g b ≡ q → refused c g ≡ insert_as rule i g b
       by_limits true q l m = same TooManyNodes (links_full rule i g b l) (cause_refuses rule g b i TooManyNodes (nodes keeps l refl))
@@ -114,7 +113,7 @@ module _ (rule : FarRule) (i : ℕ) (g : CircuitDag) (b : List ℕ) (keeps : goo
       by_limits false false l m = not_both c (sym (ap (λ (x : LinkedRecords). x.answer) (links-grown rule i g b l m)) ∙ e)
 
   -- the links accept: there is a free node, and room for the edges
-  module _ (done : once.answer ≡ Done) where
+  module _ (done : once.answer ≡ Ok tt) where
     pub free : leb 512 (size g) ≡ false
     free = by_limit (leb 512 (size g)) refl
       where
@@ -149,20 +148,20 @@ module _ (rule : FarRule) (i : ℕ) (g : CircuitDag) (b : List ℕ) (keeps : goo
       unfolding register_record
       maps_by p e = rw (is, first, last, keeps, free, e) refl
 
-      pub too_many : (c : Refusal) → maps.answer ≡ Refused c → refused c g ≡ insert_as rule i g b
+      pub too_many : (c : Refusal) → maps.answer ≡ Err c → refused c g ≡ insert_as rule i g b
       too_many c z = by_pass passing refl
         where
           by_pass : (p : Bool) → passing ≡ p → refused c g ≡ insert_as rule i g b
           by_pass true e =
-              let w : Refused (TooManyRegisters i) ≡ Refused c = sym (ap (λ (x : Registered). x.answer) (maps_by true e)) ∙ z in
+              let w : Err (TooManyRegisters i) ≡ Err c = sym (ap (λ (x : Registered). x.answer) (maps_by true e)) ∙ z in
               let y : TooManyRegisters i ≡ c = cc in
               ap (λ (x : Refusal). refused x g) (sym y) ∙ sym (cause_refuses rule g b i (TooManyRegisters 0) (entries keeps free room (maps-pass g b ∙ e) refl))
           by_pass false e = not_both c (sym (ap (λ (x : Registered). x.answer) (maps_by false e)) ∙ z)
 
-      pub inserted : maps.answer ≡ Done → record { answer = Node v; graph = assembled (node_after b (node_lists g)) once maps } ≡ insert_as rule i g b
+      pub inserted : maps.answer ≡ Ok tt → record { answer = Ok v; graph = assembled (node_after b (node_lists g)) once maps } ≡ insert_as rule i g b
       inserted z = by_pass passing refl
         where
-          by_pass : (p : Bool) → passing ≡ p → record { answer = Node v; graph = assembled (node_after b (node_lists g)) once maps } ≡ insert_as rule i g b
+          by_pass : (p : Bool) → passing ≡ p → record { answer = Ok v; graph = assembled (node_after b (node_lists g)) once maps } ≡ insert_as rule i g b
           by_pass true e = not_both (TooManyRegisters i) (sym z ∙ ap (λ (x : Registered). x.answer) (maps_by true e))
           by_pass false e =
               let d = taken_inserts rule g b i (record { whole = keeps; free = free; room = room; fit = maps-pass g b ∙ e }) in
@@ -171,8 +170,8 @@ module _ (rule : FarRule) (i : ℕ) (g : CircuitDag) (b : List ℕ) (keeps : goo
               let q : new ≡ maps_of after = (λ j. stored (front b) (is j + 1) g.first_registers g.last_registers (maps_after b (size g) g.first_registers g.last_registers)) ∙ registers-at rule g b (front b) refl in
               let w : v ≡ node (size g) = λ j. record { 0 = is j } in
               let x = links-grown rule i g b free room in
-              let here : ◌≡◌ {A = Inserted} (record { answer = Node v; graph = assembled (node_after b (node_lists g)) once maps }) (record { answer = Node (node (size g)); graph = assembled (node_lists after) (links_of after) new }) = λ j. record { answer = Node (w j); graph = assembled (n j) (x j) (r j) } in
-              let there : ◌≡◌ {A = Inserted} (record { answer = Node (node (size g)); graph = assembled (node_lists after) (links_of after) new }) (record { answer = Node (node (size g)); graph = after }) = λ j. record { answer = Node (node (size g)); graph = assembled (node_lists after) (links_of after) (q j) } in
+              let here : ◌≡◌ {A = Inserted} (record { answer = Ok v; graph = assembled (node_after b (node_lists g)) once maps }) (record { answer = Ok (node (size g)); graph = assembled (node_lists after) (links_of after) new }) = λ j. record { answer = Ok (w j); graph = assembled (n j) (x j) (r j) } in
+              let there : ◌≡◌ {A = Inserted} (record { answer = Ok (node (size g)); graph = assembled (node_lists after) (links_of after) new }) (record { answer = Ok (node (size g)); graph = after }) = λ j. record { answer = Ok (node (size g)); graph = assembled (node_lists after) (links_of after) (q j) } in
               here ∙ there ∙ sym d
 
 -- ---- `insert_sound`
@@ -180,22 +179,22 @@ module _ (rule : FarRule) (i : ℕ) (g : CircuitDag) (b : List ℕ) (keeps : goo
 module _ (rule : FarRule) (i : ℕ) (g : CircuitDag) (h : sound g ≡ true) (z : DagSized g) (b : List ℕ) (keeps : good b ≡ true) where
   -- the links of the parsed record
   module _ (s : Record) (x : LinkedRecords) (is : s ≡ record_of b) (ex : x ≡ link_node rule i s.front s.qubits (node (size g)) g.edges g.first g.last) where
-    by_answer : x ≡ elim (once rule i g b keeps).answer [ Done ↦ once rule i g b keeps | Refused r ↦ links_kept (node (size g)) g.edges g.first g.last r ]
+    by_answer : x ≡ elim (once rule i g b keeps).answer [ Ok _ ↦ once rule i g b keeps | Err r ↦ links_kept (node (size g)) g.edges g.first g.last r ]
     unfolding link_node
     by_answer = ex ∙ ap (λ (r : Record). link_node rule i r.front r.qubits (node (size g)) g.edges g.first g.last) is ∙ rw (links_fit_lem g h z) refl
 
     answer_is : x.answer ≡ (once rule i g b keeps).answer
     answer_is = ap (λ (y : LinkedRecords). y.answer) by_answer ∙ kept (once rule i g b keeps).answer refl
       where
-        kept : (a : Outcome) → (once rule i g b keeps).answer ≡ a → (let y : LinkedRecords = elim a [ Done ↦ once rule i g b keeps | Refused r ↦ links_kept (node (size g)) g.edges g.first g.last r ] in y.answer ≡ a)
-        kept Done e = e
-        kept (Refused r) e = refl
+        kept : (a : Result ⊤ Refusal) → (once rule i g b keeps).answer ≡ a → (let y : LinkedRecords = elim a [ Ok _ ↦ once rule i g b keeps | Err r ↦ links_kept (node (size g)) g.edges g.first g.last r ] in y.answer ≡ a)
+        kept (Ok _) e = e
+        kept (Err r) e = refl
 
-    pub stays : (c : Refusal) → x.answer ≡ Refused c → refused c g ≡ insert_as rule i g b
+    pub stays : (c : Refusal) → x.answer ≡ Err c → refused c g ≡ insert_as rule i g b
     stays c e = link-refused rule i g b keeps c (sym answer_is ∙ e)
 
-    module _ (done : x.answer ≡ Done) where
-      all : (once rule i g b keeps).answer ≡ Done
+    module _ (done : x.answer ≡ Ok tt) where
+      all : (once rule i g b keeps).answer ≡ Ok tt
       all = sym answer_is ∙ done
 
       is-once : x ≡ once rule i g b keeps
@@ -207,14 +206,14 @@ module _ (rule : FarRule) (i : ℕ) (g : CircuitDag) (h : sound g ≡ true) (z :
           rw e (f, omega (arith, f, commuting_few g h z), omega (arith, f, ends_sum g h z), omega (arith, f, ends_sum g h z))
 
       module _ (r : Registered) (er : r ≡ register_record i g.first_registers g.last_registers b (node (size g))) where
-        pub passes : (c : Refusal) → r.answer ≡ Refused c → refused c g ≡ insert_as rule i g b
+        pub passes : (c : Refusal) → r.answer ≡ Err c → refused c g ≡ insert_as rule i g b
         passes c e = too_many rule i g b keeps all (first_map g h z) (last_map g h z) (node (size g)) refl c (sym (ap (λ (y : Registered). y.answer) er) ∙ e)
 
-        pub grown-is : r.answer ≡ Done → (l n : NodeLists) → l ≡ node_lists g → n ≡ node_after b l → (a : CircuitDag) → a ≡ assembled n x r → record { answer = Node (node (size g)); graph = a } ≡ insert_as rule i g b
+        pub grown-is : r.answer ≡ Ok tt → (l n : NodeLists) → l ≡ node_lists g → n ≡ node_after b l → (a : CircuitDag) → a ≡ assembled n x r → record { answer = Ok (node (size g)); graph = a } ≡ insert_as rule i g b
         grown-is e l n el en a ea =
             let w = inserted rule i g b keeps all (first_map g h z) (last_map g h z) (node (size g)) refl (sym (ap (λ (q : Registered). q.answer) er) ∙ e) in
             let p : a ≡ assembled (node_after b (node_lists g)) (once rule i g b keeps) (register_record i g.first_registers g.last_registers b (node (size g))) = ea ∙ (λ j. assembled (en j) (is-once j) (er j)) ∙ ap (λ (y : NodeLists). assembled (node_after b y) (once rule i g b keeps) (register_record i g.first_registers g.last_registers b (node (size g)))) el in
-            ap (λ (y : CircuitDag). record { answer = Node (node (size g)); graph = y }) p ∙ w
+            ap (λ (y : CircuitDag). record { answer = Ok (node (size g)); graph = y }) p ∙ w
 
 pub sound_inserts : (rule : LoadingRule) (g : CircuitDag) (bytes : List ℕ) → sound g ≡ true → insert_as (rule_of rule) 0 g bytes ≡ insert_by rule g bytes
 unfolding insert_by

@@ -12,14 +12,13 @@ use borrow.Author.Tests.{lt-ltb}
 use Rattle.file.specs.Lists.{all_of, count_from, up_to}
 use Rattle.file.specs.Pairs.{count_of, check_file}
 use Rattle.file.specs.declared.Refusal.{Refusal}
-use Rattle.file.specs.declared.FileCheck.TheVariants.{Sound, Refused as BadFile}
 use Rattle.file.proofs.PairLaws.{accepted}
 use Rattle.graph.specs.Dag.{empty}
 use Rattle.file.proofs.PutLaws.{length-count_from}
 use Rattle.graph.proofs.ListLaws.{at_all}
-use Rattle.file.specs.declared.Outcome.TheVariants.{Done, Refused}
 use Rattle.links.specs.declared.LinkedRecords.{LinkedRecords}
-use Rattle.links.specs.Links.{FarRule, LoadingRule, rule_of}
+use Rattle.links.specs.Links.{FarRule, rule_of}
+use Rattle.links.specs.declared.LoadingRule.{LoadingRule}
 use Rattle.links.specs.Linking.{no_links, link_records}
 use Rattle.registers.specs.declared.Registered.{Registered}
 use Rattle.registers.specs.declared.RegisteredRecords.{RegisteredRecords}
@@ -27,10 +26,11 @@ use Rattle.registers.specs.Registers.{enter_records, register_records}
 use Rattle.insertion.specs.Load.{not_loaded, insert_records, load_by}
 use Rattle.insertion.specs.Parts.{node_lists, nodes_after, assembled}
 use Rattle.insertion.proofs.PartLaws.{Together, together}
+use Rattle.std.specs.Prelude.{Ok, Err}
 
 -- ---- `insert_in_order`
 
-module _ (rule : FarRule) (s l : List ℕ) (sure : check_file s ≡ Sound) (below : all_of (λ i. ltb i (count_of s)) l ≡ true) (short : length l ≤ 512) where
+module _ (rule : FarRule) (s l : List ℕ) (sure : check_file s ≡ Ok tt) (below : all_of (λ i. ltb i (count_of s)) l ≡ true) (short : length l ≤ 512) where
   abbrev links : LinkedRecords
   links = link_records rule s no_links l
 
@@ -48,20 +48,20 @@ module _ (rule : FarRule) (s l : List ℕ) (sure : check_file s ≡ Sound) (belo
     unfolding register_records
     parts = subst (λ (y : RegisteredRecords). Together rule s empty l y.linked y.registered) (sym made) t
 
-    pub maps_refuse : (c : Refusal) → y.registered.answer ≡ Refused c → not_loaded c ≡ insert_records rule s empty l
+    pub maps_refuse : (c : Refusal) → y.registered.answer ≡ Err c → not_loaded c ≡ insert_records rule s empty l
     maps_refuse c e = sym (parts.many c e)
 
-    module _ (done : y.registered.answer ≡ Done) where
-      pub links_refuse : (c : Refusal) → y.linked.answer ≡ Refused c → not_loaded c ≡ insert_records rule s empty l
+    module _ (done : y.registered.answer ≡ Ok tt) where
+      pub links_refuse : (c : Refusal) → y.linked.answer ≡ Err c → not_loaded c ≡ insert_records rule s empty l
       links_refuse c e = sym (parts.stops c done e)
 
-      pub both_accept : y.linked.answer ≡ Done
-          → record { answer = Done; graph = assembled (nodes_after s (node_lists empty) l) y.linked y.registered } ≡ insert_records rule s empty l
+      pub both_accept : y.linked.answer ≡ Ok tt
+          → record { answer = (Ok tt); graph = assembled (nodes_after s (node_lists empty) l) y.linked y.registered } ≡ insert_records rule s empty l
       both_accept e = sym (parts.whole done e)
 
 -- ---- `load`
 
-pub bad_file : (rule : LoadingRule) (file : List ℕ) (r : Refusal) → check_file file ≡ BadFile r → not_loaded r ≡ load_by rule file
+pub bad_file : (rule : LoadingRule) (file : List ℕ) (r : Refusal) → check_file file ≡ Err r → not_loaded r ≡ load_by rule file
 unfolding load_by
 bad_file rule file r e = rw e refl
 
@@ -80,7 +80,7 @@ count_at (suc m) k (suc i) h = let r = count_at m (k + 1) i (omega arith) in ome
 pub all_below : (n : ℕ) → all_of (λ i. ltb i n) (up_to n) ≡ true
 all_below n = at_all (λ i. ltb i n) (up_to n) 0 (λ i h. let l : i < n = omega (arith, length-count_from n 0) in let z : 0 + i ≡ i = omega arith in rw (count_at n 0 i l, z) (lt-ltb i n l))
 
-module _ (file order : List ℕ) (n : ℕ) (e : order ≡ up_to 512) (m : n ≡ count_of file) (good : check_file file ≡ Sound) where
+module _ (file order : List ℕ) (n : ℕ) (e : order ≡ up_to 512) (m : n ≡ count_of file) (good : check_file file ≡ Ok tt) where
   pub few : n ≤ 512
   few = omega (arith, m, (accepted file good).many)
 

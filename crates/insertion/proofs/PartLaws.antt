@@ -13,16 +13,12 @@ use Rattle.file.specs.Lists.{all_of}
 use Rattle.file.specs.Pairs.{count_of, check_file, record_at}
 use Rattle.file.specs.Records.{front, good, cause_of, qubits_of, record_of, parse_at}
 use Rattle.file.specs.Refusals.{at_record}
-use Rattle.file.specs.declared.FileCheck.TheVariants.{Sound}
-use Rattle.file.specs.declared.Parsed.TheVariants.{Record as Parses, Refused as NotTaken}
 use Rattle.file.proofs.BoolLaws.{clash_bool}
 use Rattle.file.proofs.RecordLaws.{checked_at}
 use Rattle.file.specs.declared.Refusal.{Refusal}
 use Rattle.file.specs.declared.Refusal.TheVariants.{TooManyNodes, TooManyEdges, TooManyRegisters}
 use Rattle.graph.specs.declared.CircuitDag.{CircuitDag}
 use Rattle.graph.specs.Dag.{size, with_edges}
-use Rattle.file.specs.declared.Outcome.{Outcome}
-use Rattle.file.specs.declared.Outcome.TheVariants.{Done, Refused}
 use Rattle.links.specs.declared.LinkedRecords.{LinkedRecords}
 use Rattle.links.specs.Links.{FarRule, link, link_at}
 use Rattle.links.specs.Linking.{links_from, links_stopped, link_record, link_records}
@@ -35,6 +31,7 @@ use Rattle.insertion.specs.Limits.{refused, edges_pass, registers_pass, insert_a
 use Rattle.insertion.specs.Load.{not_loaded, insert_records}
 use Rattle.insertion.specs.Parts.{node_lists, node_after, nodes_after, assembled}
 use Rattle.insertion.proofs.CaseLaws.{Taken, Cause, itself, nodes, edges, entries, taken-or-refused, taken_inserts, cause_refuses}
+use Rattle.std.specs.Prelude.{Result, Ok, Err, ⊤}
 
 -- ---- the parts of a graph
 
@@ -109,11 +106,11 @@ registers_in rule s g l = registers_from s (maps_of g) (take ((links_in rule s g
 
 -- what the records make together, by the parts
 pub record Together (rule : FarRule) (s : List ℕ) (g : CircuitDag) (l : List ℕ) (x : LinkedRecords) (r : Registered) : Type 0 where
-  pub many : (c : Refusal) → r.answer ≡ Refused c → insert_records rule s g l ≡ not_loaded c
-  pub stops : (c : Refusal) → r.answer ≡ Done → x.answer ≡ Refused c → insert_records rule s g l ≡ not_loaded c
-  pub whole : r.answer ≡ Done → x.answer ≡ Done → insert_records rule s g l ≡ record { answer = Done; graph = assembled (nodes_after s (node_lists g) l) x r }
+  pub many : (c : Refusal) → r.answer ≡ Err c → insert_records rule s g l ≡ not_loaded c
+  pub stops : (c : Refusal) → r.answer ≡ Ok tt → x.answer ≡ Err c → insert_records rule s g l ≡ not_loaded c
+  pub whole : r.answer ≡ Ok tt → x.answer ≡ Ok tt → insert_records rule s g l ≡ record { answer = (Ok tt); graph = assembled (nodes_after s (node_lists g) l) x r }
 
-pub not_both : {A : Type 0} (c : Refusal) → ◌≡◌ {A = Outcome} Done (Refused c) → A
+pub not_both : {A : Type 0} (c : Refusal) → ◌≡◌ {A = Result ⊤ Refusal} (Ok tt) (Err c) → A
 not_both c e = let z : ◌≡◌ {A = ℕ} 0 1 = cc in absurd (omega arith)
 
 take_none : (n : ℕ) → take {A = ℕ} n [] ≡ []
@@ -122,16 +119,16 @@ take_none (suc n) = refl
 
 -- the links of a list by those of its first record
 module _ (rule : FarRule) (s : List ℕ) (g : CircuitDag) (i : ℕ) (l : List ℕ) where
-  links-not : (c : Refusal) → parse_at s i ≡ NotTaken c → links_in rule s g (i ∷ l) ≡ links_stopped (size g) c
+  links-not : (c : Refusal) → parse_at s i ≡ Err c → links_in rule s g (i ∷ l) ≡ links_stopped (size g) c
   unfolding link_records
   links-not c e = rw (e, link_records) refl
 
-  links-next : parse_at s i ≡ Parses (record_of (record_at s i)) → (y : LinkedRecords)
+  links-next : parse_at s i ≡ Ok (record_of (record_at s i)) → (y : LinkedRecords)
       → link_record rule i (front (record_at s i)) (qubits_of (record_at s i)) (links_of g) ≡ y
-      → links_in rule s g (i ∷ l) ≡ elim y.answer as (λ z. LinkedRecords) [ Done ↦ link_records rule s y l | Refused c ↦ y ]
+      → links_in rule s g (i ∷ l) ≡ elim y.answer as (λ z. LinkedRecords) [ Ok _ ↦ link_records rule s y l | Err c ↦ y ]
   unfolding link_records
   links-next e y q = rw (e, link_records)
-      (ap (λ (y : LinkedRecords). elim y.answer as (λ z. LinkedRecords) [ Done ↦ link_records rule s y l | Refused c ↦ y ]) q)
+      (ap (λ (y : LinkedRecords). elim y.answer as (λ z. LinkedRecords) [ Ok _ ↦ link_records rule s y l | Err c ↦ y ]) q)
 
 module _ (rule : FarRule) (s : List ℕ) (g : CircuitDag) where
   none-registered : registers_in rule s g [] ≡ maps_of g
@@ -155,14 +152,14 @@ module _ (rule : FarRule) (s : List ℕ) (g : CircuitDag) where
     unfolding insert_records registers_from
     stopped_here c e d = record {
       many = λ x h. not_both x (rw none_left at h);
-      stops = λ x h q. let z : Refused c ≡ Refused x = rw e at q in let y : c ≡ x = cc in rw (d, insert_records, y) refl;
+      stops = λ x h q. let z : Err c ≡ Err x = rw e at q in let y : c ≡ x = cc in rw (d, insert_records, y) refl;
       whole = λ h q. not_both c (sym (rw e at q));
     }
       where
         none_left : registers_in rule s g (i ∷ l) ≡ maps_of g
         none_left = let z : (links_in rule s g (i ∷ l)).accepted - size g ≡ 0 = rw e (omega arith) in rw z refl
 
-    module _ (there : parse_at s i ≡ Parses (record_of b)) (keeps : good b ≡ true) (free : leb 512 (size g) ≡ false) (room : edges_pass rule g b ≡ false) where
+    module _ (there : parse_at s i ≡ Ok (record_of b)) (keeps : good b ≡ true) (free : leb 512 (size g) ≡ false) (room : edges_pass rule g b ≡ false) where
       abbrev h : CircuitDag
       h = grown rule g b
 
@@ -186,7 +183,7 @@ module _ (rule : FarRule) (s : List ℕ) (g : CircuitDag) where
       passes_here : registers_pass g b ≡ true → Together rule s g (i ∷ l) (links_in rule s g (i ∷ l)) (registers_in rule s g (i ∷ l))
       unfolding insert_records registers_from
       passes_here p = record {
-        many = λ c q. let z : Refused (TooManyRegisters i) ≡ Refused c = rw stops_here at q in let y : TooManyRegisters i ≡ c = cc in rw (cause_refuses rule g b i (TooManyRegisters 0) (entries keeps free room p refl), insert_records, y) refl;
+        many = λ c q. let z : Err (TooManyRegisters i) ≡ Err c = rw stops_here at q in let y : TooManyRegisters i ≡ c = cc in rw (cause_refuses rule g b i (TooManyRegisters 0) (entries keeps free room p refl), insert_records, y) refl;
         stops = λ c q e. not_both (TooManyRegisters i) (sym (rw stops_here at q));
         whole = λ q e. not_both (TooManyRegisters i) (sym (rw stops_here at q));
       }
@@ -217,7 +214,7 @@ module _ (rule : FarRule) (s : List ℕ) (g : CircuitDag) where
           whole = λ q e. inserts_on ∙ rw (registers-on, links-on, nodes_on) (t.whole (rw registers-on at q) (rw links-on at e));
         }
 
-pub together : (rule : FarRule) (s : List ℕ) → check_file s ≡ Sound → (l : List ℕ) → all_of (λ i. ltb i (count_of s)) l ≡ true → (g : CircuitDag)
+pub together : (rule : FarRule) (s : List ℕ) → check_file s ≡ Ok tt → (l : List ℕ) → all_of (λ i. ltb i (count_of s)) l ≡ true → (g : CircuitDag)
     → size g + length l ≤ 512 → Together rule s g l (links_in rule s g l) (registers_in rule s g l)
 together rule s sure [] below g h = together_none rule s g
 together rule s sure (i ∷ l) below g h = ⊎_elim
@@ -235,15 +232,15 @@ together rule s sure (i ∷ l) below g h = ⊎_elim
     free : leb 512 (size g) ≡ false
     free = lt-leb 512 (size g) (omega (arith, h))
 
-    at : parse_at s i ≡ cond (good b) (Parses (record_of b)) (NotTaken (at_record i (cause_of b)))
+    at : parse_at s i ≡ cond (good b) (Ok (record_of b)) (Err (at_record i (cause_of b)))
     at = checked_at s i sure (ltb-true i (count_of s) (all_first (λ j. ltb j (count_of s)) i l below))
 
-    there : good b ≡ true → parse_at s i ≡ Parses (record_of b)
-    there e = at ∙ ap (λ (c : Bool). cond c (Parses (record_of b)) (NotTaken (at_record i (cause_of b)))) e
+    there : good b ≡ true → parse_at s i ≡ Ok (record_of b)
+    there e = at ∙ ap (λ (c : Bool). cond c (Ok (record_of b)) (Err (at_record i (cause_of b)))) e
 
-    not_taken : good b ≡ false → (r : Refusal) → r ≡ cause_of b → parse_at s i ≡ NotTaken (at_record i r)
-    not_taken e r q = at ∙ ap (λ (c : Bool). cond c (Parses (record_of b)) (NotTaken (at_record i (cause_of b)))) e
-        ∙ ap (λ (x : Refusal). NotTaken (at_record i x)) (sym q)
+    not_taken : good b ≡ false → (r : Refusal) → r ≡ cause_of b → parse_at s i ≡ Err (at_record i r)
+    not_taken e r q = at ∙ ap (λ (c : Bool). cond c (Ok (record_of b)) (Err (at_record i (cause_of b)))) e
+        ∙ ap (λ (x : Refusal). Err (at_record i x)) (sym q)
 
     by_cause : (r : Refusal) → Cause rule g b r → Together rule s g (i ∷ l) (links_in rule s g (i ∷ l)) (registers_in rule s g (i ∷ l))
     by_cause r (itself a q) =

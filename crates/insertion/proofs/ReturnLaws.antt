@@ -16,8 +16,6 @@ use Rattle.file.specs.Pairs.{count_of, check_file, record_at}
 use Rattle.file.specs.Records.{front, kind, qubit_form, label, record_rule}
 use Rattle.file.specs.declared.Refusal.{Refusal}
 use Rattle.file.specs.Refusals.{at_record}
-use Rattle.file.specs.declared.FileCheck.{FileCheck}
-use Rattle.file.specs.declared.FileCheck.TheVariants.{Sound, Refused as BadFile}
 use Rattle.graph.specs.declared.CircuitDag.{CircuitDag}
 use Rattle.graph.specs.declared.Nodes.{Nodes}
 use Rattle.graph.specs.Dag.{empty, size, append_node, node_at, place_of, node}
@@ -27,9 +25,6 @@ use Rattle.file.proofs.PutLaws.{length-count_from}
 use Rattle.graph.proofs.ListLaws.{all_here, all_fails, all_at, length-up_to, up_to-at}
 use Rattle.graph.proofs.SoundnessLaws.{all_join}
 use Rattle.queries.proofs.BufferLaws.{keep_append}
-use Rattle.insertion.specs.declared.Answer.{Answer}
-use Rattle.insertion.specs.declared.Answer.TheVariants.{Node as IsNode, Refused as NotInserted}
-use Rattle.file.specs.declared.Outcome.TheVariants.{Done, Refused}
 use Rattle.insertion.specs.declared.Inserted.{Inserted}
 use Rattle.insertion.specs.declared.Loaded.{Loaded}
 use Rattle.links.specs.Links.{near_all}
@@ -42,6 +37,8 @@ use Rattle.queries.proofs.CircuitLaws.{kind_other, first_whole}
 use Rattle.insertion.specs.Conversion.{insertion_order, broken, convert, convert_checked, from_circuit}
 use Rattle.insertion.proofs.SafeNodes.{record_kind}
 use Rattle.insertion.specs.Circuits.{record_of_node, CircuitAgain, ReturnsCircuit}
+use Rattle.graph.specs.declared.NodeIndex.{NodeIndex}
+use Rattle.std.specs.Prelude.{Result, Ok, Err, ⊤}
 
 -- ---- one insertion
 
@@ -54,7 +51,7 @@ stored l n a d f h each e v k = ⊎_elim
 
 -- an insertion that is not refused grows the graph
 grows_or_stops : (i : ℕ) (g : CircuitDag) (b : List ℕ)
-    → ((size g < 512) × (insert_as near_all i g b ≡ accepted near_all g b)) ⊎ ((r : Refusal) × ((insert_as near_all i g b).answer ≡ NotInserted r))
+    → ((size g < 512) × (insert_as near_all i g b ≡ accepted near_all g b)) ⊎ ((r : Refusal) × ((insert_as near_all i g b).answer ≡ Err r))
 grows_or_stops i g b = ⊎_elim
     (λ (t : Taken near_all g b). inl (leb-false 512 (size g) t.free, taken_inserts near_all g b i t))
     (λ (c : (r : Refusal) × Cause near_all g b r). inr (at_record i c.0, ap (λ (x : Inserted). x.answer) (cause_refuses near_all g b i c.0 c.1)))
@@ -144,15 +141,15 @@ module _ (s : List ℕ) where
   -- ---- a list of insertions
 
   abbrev step : CircuitDag → List ℕ → Inserted → Loaded
-  step g l x = elim x.answer as (λ y. Loaded) [ IsNode v ↦ insert_records near_all s x.graph l | NotInserted r ↦ not_loaded r ]
+  step g l x = elim x.answer as (λ y. Loaded) [ Ok v ↦ insert_records near_all s x.graph l | Err r ↦ not_loaded r ]
 
   goes_on : (i : ℕ) (l : List ℕ) (g : CircuitDag) (x : Inserted) → insert_as near_all i g (record_at s i) ≡ x → insert_records near_all s g (i ∷ l) ≡ step g l x
   unfolding insert_records
   goes_on i l g x e = ap (step g l) e
 
-  stops : (i : ℕ) (l : List ℕ) (g : CircuitDag) (r : Refusal) → (insert_as near_all i g (record_at s i)).answer ≡ NotInserted r → insert_records near_all s g (i ∷ l) ≡ not_loaded r
+  stops : (i : ℕ) (l : List ℕ) (g : CircuitDag) (r : Refusal) → (insert_as near_all i g (record_at s i)).answer ≡ Err r → insert_records near_all s g (i ∷ l) ≡ not_loaded r
   unfolding insert_records
-  stops i l g r e = ap (λ (y : Answer). elim y as (λ z. Loaded) [ IsNode v ↦ insert_records near_all s (insert_as near_all i g (record_at s i)).graph l | NotInserted r ↦ not_loaded r ]) e
+  stops i l g r e = ap (λ (y : Result NodeIndex Refusal). elim y as (λ z. Loaded) [ Ok v ↦ insert_records near_all s (insert_as near_all i g (record_at s i)).graph l | Err r ↦ not_loaded r ]) e
 
   abbrev back : ℕ → Bool
   back i = not (front (record_at s i))
@@ -161,19 +158,19 @@ module _ (s : List ℕ) where
   unfolding insert_records
   none_left g = refl
 
-  inserts : (l done : List ℕ) (g : CircuitDag) → Filled done g → all_of back l ≡ true → (insert_records near_all s g l).answer ≡ Done → Filled (done ++ l) (insert_records near_all s g l).graph
+  inserts : (l done : List ℕ) (g : CircuitDag) → Filled done g → all_of back l ≡ true → (insert_records near_all s g l).answer ≡ Ok tt → Filled (done ++ l) (insert_records near_all s g l).graph
   inserts [] done g F a h = subst (λ (x : CircuitDag). Filled (done ++ []) x) (sym (none_left g)) (subst (λ (m : List ℕ). Filled m g) (sym (append-nil done)) F)
   inserts (i ∷ l) done g F a h = ⊎_elim
-      (λ (x : (size g < 512) × (insert_as near_all i g (record_at s i) ≡ record { answer = IsNode (node (size g)); graph = grown near_all g (record_at s i) })).
+      (λ (x : (size g < 512) × (insert_as near_all i g (record_at s i) ≡ record { answer = Ok (node (size g)); graph = grown near_all g (record_at s i) })).
       let g' = grown near_all g (record_at s i) in
-      let e : insert_records near_all s g (i ∷ l) ≡ insert_records near_all s g' l = goes_on i l g (record { answer = IsNode (node (size g)); graph = g' }) x.1 in
+      let e : insert_records near_all s g (i ∷ l) ≡ insert_records near_all s g' l = goes_on i l g (record { answer = Ok (node (size g)); graph = g' }) x.1 in
       let t : back i ≡ true = not-false (λ q. clash_bool a (all_fails back i l q)) in
       let f : Filled (done ++ (i ∷ [])) g' = filled_more done g F i (not-flip (front (record_at s i)) t) x.0 in
       let r = inserts l (done ++ (i ∷ [])) g' f (sym (all_here back i l t) ∙ a) (sym (ap (λ (y : Loaded). y.answer) e) ∙ h) in
       subst (λ (y : Loaded). Filled (done ++ (i ∷ l)) y.graph) (sym e)
       (subst (λ (m : List ℕ). Filled m (insert_records near_all s g' l).graph) (append_assoc done (i ∷ []) l) r))
-      (λ (x : (r : Refusal) × ((insert_as near_all i g (record_at s i)).answer ≡ NotInserted r)).
-      let e : Refused x.0 ≡ Done = sym (ap (λ (y : Loaded). y.answer) (stops i l g x.0 x.1)) ∙ h in
+      (λ (x : (r : Refusal) × ((insert_as near_all i g (record_at s i)).answer ≡ Err r)).
+      let e : Err x.0 ≡ Ok tt = sym (ap (λ (y : Loaded). y.answer) (stops i l g x.0 x.1)) ∙ h in
       let z : ◌≡◌ {A = ℕ} 0 1 = cc in
       absurd (omega arith))
       (grows_or_stops i g (record_at s i))
@@ -212,17 +209,17 @@ record Accepted (s : List ℕ) : Type 0 where
   pub same : from_circuit s ≡ insert_records near_all s empty (insertion_order s)
   pub whole : keep (broken s) (up_to (count_of s)) ≡ []
 
-accepted_told : (s : List ℕ) → (from_circuit s).answer ≡ Done → Accepted s
+accepted_told : (s : List ℕ) → (from_circuit s).answer ≡ Ok tt → Accepted s
 unfolding from_circuit
 accepted_told s h = checked (check_file s) refl h
   where
-    listed : (l : List ℕ) → keep (broken s) (up_to (count_of s)) ≡ l → check_file s ≡ Sound → (convert s l).answer ≡ Done → Accepted s
-    listed [] e c h = record { same = ap (λ (f : FileCheck). convert_checked f s) c ∙ ap (convert s) e; whole = e }
+    listed : (l : List ℕ) → keep (broken s) (up_to (count_of s)) ≡ l → check_file s ≡ Ok tt → (convert s l).answer ≡ Ok tt → Accepted s
+    listed [] e c h = record { same = ap (λ (f : Result ⊤ Refusal). convert_checked f s) c ∙ ap (convert s) e; whole = e }
     listed (i ∷ l) e c h = let z : ◌≡◌ {A = ℕ} 0 1 = cc in absurd (omega arith)
 
-    checked : (f : FileCheck) → check_file s ≡ f → (convert_checked f s).answer ≡ Done → Accepted s
-    checked (BadFile r) c h = let z : ◌≡◌ {A = ℕ} 0 1 = cc in absurd (omega arith)
-    checked Sound c h = listed (keep (broken s) (up_to (count_of s))) refl c h
+    checked : (f : Result ⊤ Refusal) → check_file s ≡ f → (convert_checked f s).answer ≡ Ok tt → Accepted s
+    checked (Err r) c h = let z : ◌≡◌ {A = ℕ} 0 1 = cc in absurd (omega arith)
+    checked (Ok _) c h = listed (keep (broken s) (up_to (count_of s))) refl c h
 
 -- ---- the circuit of nodes whose places are their numbers
 
@@ -264,7 +261,7 @@ parts_same p q d m f t =
 
 -- ---- the theorem
 
-module _ (s : List ℕ) (h : (from_circuit s).answer ≡ Done) where
+module _ (s : List ℕ) (h : (from_circuit s).answer ≡ Ok tt) where
   abbrev G : CircuitDag
   G = (from_circuit s).graph
 

@@ -7,36 +7,35 @@ use native.Mathlib.Omega.{arith}
 use native.Mathlib.Decide.{dec_lt}
 use Rattle.file.specs.Lists.{keep, up_to}
 use Rattle.file.specs.Records.{front, kind, record_rule}
-use Rattle.file.specs.declared.Outcome.TheVariants.{Done}
-use Rattle.file.specs.declared.FileCheck.{FileCheck}
-use Rattle.file.specs.declared.FileCheck.TheVariants.{Sound, Refused}
 use Rattle.file.specs.Pairs.{count_of, record_at}
 use Rattle.file.specs.Tight.{tight_file}
 use Rattle.file.proofs.PairLaws.{no_record}
 use Rattle.file.proofs.TightLaws.{tight_file_lem}
 use Rattle.graph.specs.declared.CircuitDag.{CircuitDag}
 use Rattle.graph.specs.Dag.{empty}
-use Rattle.links.specs.Links.{FarRule, near_all, LoadingRule, rule_of}
+use Rattle.links.specs.Links.{FarRule, near_all, rule_of}
+use Rattle.links.specs.declared.LoadingRule.{LoadingRule}
 use Rattle.queries.specs.Conversion.{definitions_first}
-use Rattle.insertion.specs.declared.Answer.TheVariants.{Node, Refused as NotInserted}
 use Rattle.insertion.specs.Limits.{insert_as}
 use Rattle.insertion.specs.Load.{not_loaded, insert_records, load_checked, load_by}
 use Rattle.insertion.specs.Conversion.{broken, insertion_order, convert, convert_checked, from_circuit}
 use Rattle.insertion.specs.Tight.{load_tight, convert_tight, SameLoads, SameRecords, SlackUnread}
+use Rattle.file.specs.declared.Refusal.{Refusal}
+use Rattle.std.specs.Prelude.{Result, Ok, Err, ⊤}
 
-load-sound : (rule : FarRule) (c : FileCheck) (s : List ℕ) → (load_checked rule c s).answer ≡ Done → c ≡ Sound
-load-sound rule Sound s e = refl
-load-sound rule (Refused r) s e = let z : ◌≡◌ {A = ℕ} 0 1 = cc in absurd (omega arith)
+load-sound : (rule : FarRule) (c : Result ⊤ Refusal) (s : List ℕ) → (load_checked rule c s).answer ≡ Ok tt → c ≡ Ok tt
+load-sound rule (Ok _) s e = refl
+load-sound rule (Err r) s e = let z : ◌≡◌ {A = ℕ} 0 1 = cc in absurd (omega arith)
 
-convert-sound : (c : FileCheck) (s : List ℕ) → (convert_checked c s).answer ≡ Done → c ≡ Sound
-convert-sound Sound s e = refl
-convert-sound (Refused r) s e = let z : ◌≡◌ {A = ℕ} 0 1 = cc in absurd (omega arith)
+convert-sound : (c : Result ⊤ Refusal) (s : List ℕ) → (convert_checked c s).answer ≡ Ok tt → c ≡ Ok tt
+convert-sound (Ok _) s e = refl
+convert-sound (Err r) s e = let z : ◌≡◌ {A = ℕ} 0 1 = cc in absurd (omega arith)
 
-same_load : (rule : LoadingRule) (s : List ℕ) → tight_file s ≡ Sound → load_by rule s ≡ load_tight rule s
+same_load : (rule : LoadingRule) (s : List ℕ) → tight_file s ≡ Ok tt → load_by rule s ≡ load_tight rule s
 unfolding load_by
 same_load rule s t = rw (tight_file_lem.passes s t, t) refl
 
-same_conversion : (s : List ℕ) → tight_file s ≡ Sound → from_circuit s ≡ convert_tight s
+same_conversion : (s : List ℕ) → tight_file s ≡ Ok tt → from_circuit s ≡ convert_tight s
 unfolding from_circuit
 same_conversion s t = rw (tight_file_lem.passes s t, t) refl
 
@@ -61,7 +60,7 @@ module _ (s t : List ℕ) (h : SameRecords s t) where
   unfolding insert_records
   inserts rule [] g = refl
   inserts rule (i ∷ l) g = λ p. let x = insert_as rule i g (at_all i p) in
-      elim x.answer [ Node v ↦ inserts rule l x.graph p | NotInserted r ↦ not_loaded r ]
+      elim x.answer [ Ok v ↦ inserts rule l x.graph p | Err r ↦ not_loaded r ]
 
   in_order : insertion_order s ≡ insertion_order t
   in_order = λ p. definitions_first (λ i. kind (at_all i p)) (up_to (h.count p))

@@ -13,8 +13,6 @@ use borrow.Author.Tests.{eqb-true, eq-eqb, leb-false, not-true, not-false}
 use Rattle.file.specs.Lists.{any_of, member, up_to}
 use Rattle.file.specs.Pairs.{count_of, check_file, record_at, records_of}
 use Rattle.file.specs.Records.{front, qubits_of}
-use Rattle.file.specs.declared.FileCheck.{FileCheck}
-use Rattle.file.specs.declared.FileCheck.TheVariants.{Sound, Refused as BadFile}
 use Rattle.file.specs.declared.InvolvedQubits.{InvolvedQubits}
 use Rattle.file.specs.declared.InvolvedQubits.TheVariants.{None, All, Set}
 use Rattle.file.specs.declared.Refusal.{Refusal}
@@ -26,10 +24,9 @@ use Rattle.graph.specs.Soundness.{sound}
 use Rattle.graph.proofs.ListLaws.{any_at, at-any}
 use Rattle.links.specs.Links.{Linked, FarRule, near_all, far_all, source, near_after, far_after, qubits, link_qubits, link_set, link_by, join_far}
 use Rattle.links.proofs.LinkLaws.{low_present, qubits_in, link_one, add_present, set_entries}
-use Rattle.insertion.specs.declared.Answer.TheVariants.{Node, Refused}
 use Rattle.insertion.specs.declared.Inserted.{Inserted}
 use Rattle.insertion.specs.declared.Loaded.{Loaded}
-use Rattle.links.specs.Links.{NearAll, FarAll}
+use Rattle.links.specs.declared.LoadingRule.TheVariants.{NearAll, FarAll}
 use Rattle.insertion.specs.Insertion.{facing, linked, registered, extended, grown_at, grown}
 use Rattle.insertion.specs.Limits.{accepts, edges_pass, insert_as, insert_by, insert_of}
 use Rattle.insertion.specs.Load.{not_loaded, insert_records, load_checked, load_by}
@@ -39,6 +36,7 @@ use Rattle.insertion.proofs.CaseLaws.{Taken, Cause, itself, nodes, edges, entrie
 use Rattle.insertion.proofs.CaseLaws.{taken-or-refused, taken_inserts, cause_refuses, insert_cases}
 use Rattle.insertion.proofs.BuiltLaws.{Safe, safe_empty, safe_sound, safe_insert, safe_built}
 use Rattle.insertion.proofs.BuiltLoads.{after_last}
+use Rattle.std.specs.Prelude.{Result, Ok, Err, ⊤}
 
 -- ---- the nodes that a record is joined with do not depend on the rule
 
@@ -74,7 +72,7 @@ module _ (r t : FarRule) (g : CircuitDag) (s : List ℕ) where
   insert_alike : (i : ℕ) → (Taken r g s → grown r g s ≡ grown t g s) → insert_as r i g s ≡ insert_as t i g s
   insert_alike i e = insert_cases r g s i (λ x. x ≡ insert_as t i g s)
       (λ c k. sym (cause_refuses t g s i c (cause_by c k)))
-      (λ x. ap (λ (y : CircuitDag). record { answer = Node (node (size g)); graph = y }) (e x) ∙ sym (taken_inserts t g s i (taken_by x)))
+      (λ x. ap (λ (y : CircuitDag). record { answer = Ok (node (size g)); graph = y }) (e x) ∙ sym (taken_inserts t g s i (taken_by x)))
 
 -- ---- linking alike
 
@@ -223,15 +221,15 @@ module _ (s : List ℕ) where
       d = or_l (differs_at g b) (differs_from (insert_of g b).graph (map (record_at s) l)) h
 
       step : FarRule → Inserted → Loaded
-      step rule x = elim x.answer as (λ y. Loaded) [ Node v ↦ insert_records rule s x.graph l | Refused r ↦ not_loaded r ]
+      step rule x = elim x.answer as (λ y. Loaded) [ Ok v ↦ insert_records rule s x.graph l | Err r ↦ not_loaded r ]
 
   loads_same : differs_from empty (records_of s) ≡ false → load_by FarAll s ≡ load_by NearAll s
   unfolding load_by
   loads_same h = checked (check_file s)
     where
-      checked : (c : FileCheck) → load_checked far_all c s ≡ load_checked near_all c s
-      checked (BadFile r) = refl
-      checked Sound = records_same (up_to (count_of s)) empty safe_empty h
+      checked : (c : Result ⊤ Refusal) → load_checked far_all c s ≡ load_checked near_all c s
+      checked (Err r) = refl
+      checked (Ok _) = records_same (up_to (count_of s)) empty safe_empty h
 
 -- ---- the first record that differs
 

@@ -1,5 +1,5 @@
 -- The circuits of built graphs, and from an accepted circuit file back to a circuit: the statements. Assumes nothing.
-use Rattle.std.specs.Prelude.{◌≡◌, List, map, ℕ, ◌<◌, pos, get_or}
+use Rattle.std.specs.Prelude.{◌≡◌, List, map, ℕ, ◌<◌, pos, get_or, Ok}
 use Rattle.file.specs.Lists.{up_to}
 use Rattle.file.specs.Pairs.{count_of, record_at}
 use Rattle.file.specs.Records.{kind, qubit_form, label}
@@ -7,8 +7,7 @@ use Rattle.graph.specs.declared.CircuitDag.{CircuitDag}
 use Rattle.graph.specs.Dag.{Node, node_at}
 use Rattle.queries.specs.Conversion.{circuit_of}
 use Rattle.queries.specs.Circuits.{CircuitWhole, EdgesRespected}
-use Rattle.file.specs.declared.Outcome.TheVariants.{Done}
-use Rattle.links.specs.Links.{LoadingRule}
+use Rattle.links.specs.declared.LoadingRule.{LoadingRule}
 use Rattle.insertion.specs.Load.{load_by}
 use Rattle.insertion.specs.Calls.{Call, built}
 use Rattle.insertion.specs.Conversion.{insertion_order, from_circuit}
@@ -41,4 +40,4 @@ pub record CircuitAgain (s : List ℕ) : Type 0 where
 
 -- .. of every circuit file that is accepted
 abbrev pub ReturnsCircuit : List ℕ → Type 0
-ReturnsCircuit s = (from_circuit s).answer ≡ Done → CircuitAgain s
+ReturnsCircuit s = (from_circuit s).answer ≡ Ok tt → CircuitAgain s

@@ -9,7 +9,8 @@ use Rattle.file.specs.declared.InvolvedQubits.TheVariants.{None, All, Set}
 use Rattle.graph.specs.declared.CircuitDag.{CircuitDag}
 use Rattle.graph.specs.declared.End.{End}
 use Rattle.graph.specs.Dag.{empty, present, at_qubit}
-use Rattle.links.specs.Links.{qubits, FarAll}
+use Rattle.links.specs.Links.{qubits}
+use Rattle.links.specs.declared.LoadingRule.TheVariants.{FarAll}
 use Rattle.insertion.specs.Limits.{accepts, insert_of}
 use Rattle.insertion.specs.Load.{load_by, load}
 use Rattle.insertion.specs.Calls.{final_by, final}

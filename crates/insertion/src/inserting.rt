@@ -5,10 +5,10 @@ ghost use Rattle.links.specs.Links.{rule_of};
 ghost use Rattle.insertion.specs.Limits.{refused, insert_as, insert_by, insert_of};
 ghost use Rattle.insertion.specs.Parts.{node_lists};
 
+use crate::Inserted;
 use crate::assembling::assemble;
 use crate::nodes::{NodeLists, list_node};
-use crate::{Answer, Inserted};
-use file::{Outcome, Parsed, Refusal};
+use file::Refusal;
 use graph::{CircuitDag, NodeIndex};
 use links::LoadingRule;
 
@@ -17,7 +17,7 @@ fn not_inserted(r: Refusal, g: CircuitDag) -> Inserted
     ensures { result ≡ refused r g }
 {
     Inserted {
-        answer: Answer::Refused(r),
+        answer: Err(r),
         graph: g,
     }
 }
@@ -43,8 +43,8 @@ fn insert_sound(rule: LoadingRule, i: usize, g: CircuitDag, part: &[u8]) -> Inse
 {
     let parsed = file::parse_record(part);
     let s = match parsed {
-        Parsed::Record(s) => s,
-        Parsed::Refused(c) => return not_inserted(file::at_record(i, c), g),
+        Ok(s) => s,
+        Err(c) => return not_inserted(file::at_record(i, c), g),
     };
     let n = g.nodes.count;
     let v = NodeIndex(n as u16);
@@ -52,16 +52,16 @@ fn insert_sound(rule: LoadingRule, i: usize, g: CircuitDag, part: &[u8]) -> Inse
     let qubits = s.qubits;
     let x = links::link_node(rule, i, front, qubits, v, g.edges, g.first, g.last);
     let answer = x.answer;
-    if let Outcome::Refused(cause) = answer {
+    if let Err(cause) = answer {
         return not_inserted(cause, g);
     }
     let r = registers::register_record(i, g.first_registers, g.last_registers, part, v);
     let registered = r.answer;
-    if let Outcome::Refused(cause) = registered {
+    if let Err(cause) = registered {
         return not_inserted(cause, g);
     }
     Inserted {
-        answer: Answer::Node(v),
+        answer: Ok(v),
         graph: assemble(list_node(part, node_lists(g)), x, r),
     }
 }
@@ -80,5 +80,5 @@ pub fn insert_by(rule: LoadingRule, g: CircuitDag, part: &[u8]) -> Inserted
 pub fn insert(g: CircuitDag, part: &[u8]) -> Inserted
     ensures { result ≡ insert_of g part.now }
 {
-    insert_by(links::NEAR_ALL, g, part)
+    insert_by(LoadingRule::NearAll, g, part)
 }

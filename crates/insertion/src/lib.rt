@@ -8,27 +8,20 @@ mod loading;
 mod nodes;
 
 pub use conversion::from_circuit;
-use file::{Outcome, Refusal};
+use file::Refusal;
 use graph::{CircuitDag, NodeIndex};
 pub use inserting::{insert, insert_by};
 pub use loading::{load, load_by};
 
-// What an insertion answers, beside the graph.
-#[derive(Clone, Copy)]
-pub enum Answer {
-    Node(NodeIndex),
-    Refused(Refusal),
-}
-
 #[derive(Clone, Copy)]
 pub struct Inserted {
-    pub answer: Answer,
+    pub answer: Result<NodeIndex, Refusal>,
     pub graph: CircuitDag,
 }
 
 // What a load answers, and the graph.
 #[derive(Clone, Copy)]
 pub struct Loaded {
-    pub answer: Outcome,
+    pub answer: Result<(), Refusal>,
     pub graph: CircuitDag,
 }

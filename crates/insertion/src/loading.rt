@@ -1,9 +1,8 @@
 // "In loading, each record's part of the file goes to the insertion as it is." The links, the register maps and the nodes are each made in
 // a loop of their own, and the graph is put together once, at the end.
-ghost use Rattle.std.specs.Prelude.{◌≡◌, true, ◌≤◌, ltb, length};
+ghost use Rattle.std.specs.Prelude.{◌≡◌, true, ◌≤◌, ltb, length, Ok};
 ghost use Rattle.file.specs.Lists.{all_of, up_to};
 ghost use Rattle.file.specs.Pairs.{count_of, check_file};
-ghost use Rattle.file.specs.declared.FileCheck.TheVariants.{Sound};
 ghost use Rattle.graph.specs.Dag.{empty};
 ghost use Rattle.links.specs.Links.{rule_of};
 ghost use Rattle.insertion.specs.Load.{not_loaded, insert_records, load_by};
@@ -12,7 +11,7 @@ ghost use Rattle.insertion.specs.Load.{load as load_of};
 use crate::Loaded;
 use crate::assembling::assemble;
 use crate::nodes::list_nodes;
-use file::{FileCheck, Outcome, Refusal};
+use file::Refusal;
 use graph::CircuitDag;
 use links::LoadingRule;
 
@@ -21,7 +20,7 @@ pub(crate) fn not_loaded(r: Refusal) -> Loaded
     ensures { result ≡ not_loaded r }
 {
     Loaded {
-        answer: Outcome::Refused(r),
+        answer: Err(r),
         graph: CircuitDag::new(),
     }
 }
@@ -42,23 +41,23 @@ pub(crate) fn file_order() -> [u16; 512]
 // The records with these numbers of a file that passed the check, one after the other, on the empty graph. A refusal by
 // the register maps comes before one by the links: the maps are made of the records before it.
 pub(crate) fn insert_in_order(rule: LoadingRule, file: &[u8], order: &[u16]) -> Loaded
-    requires { (check_file file.now ≡ Sound) × (all_of (λ i. ltb i (count_of file.now)) order.now ≡ true)
+    requires { (check_file file.now ≡ Ok tt) × (all_of (λ i. ltb i (count_of file.now)) order.now ≡ true)
         × (length order.now ≤ 512) }
     ensures { result ≡ insert_records (rule_of rule) file.now empty order.now }
 {
     let x = registers::register_records(rule, file, order);
     let registered = x.registered;
     let entered = registered.answer;
-    if let Outcome::Refused(cause) = entered {
+    if let Err(cause) = entered {
         return not_loaded(cause);
     }
     let linked = x.linked;
     let answer = linked.answer;
-    if let Outcome::Refused(cause) = answer {
+    if let Err(cause) = answer {
         return not_loaded(cause);
     }
     Loaded {
-        answer: Outcome::Done,
+        answer: Ok(()),
         graph: assemble(list_nodes(file, order), linked, registered),
     }
 }
@@ -69,8 +68,8 @@ pub fn load_by(rule: LoadingRule, file: &[u8]) -> Loaded
 {
     let found = file::check_file(file);
     match found {
-        FileCheck::Refused(r) => not_loaded(r),
-        FileCheck::Sound => {
+        Err(r) => not_loaded(r),
+        Ok(()) => {
             let start: usize = 0;
             let n = file::record_count(file);
             let order = file_order();
@@ -83,5 +82,5 @@ pub fn load_by(rule: LoadingRule, file: &[u8]) -> Loaded
 pub fn load(file: &[u8]) -> Loaded
     ensures { result ≡ load_of file.now }
 {
-    load_by(links::NEAR_ALL, file)
+    load_by(LoadingRule::NearAll, file)
 }

@@ -4,9 +4,8 @@
 
 ghost use Rattle.std.specs.Prelude.{◌≤◌, ◌<◌};
 
-use file::{Outcome, Refusal, RefusalValue};
+use file::Refusal;
 use graph::CircuitDag;
-use insertion::Answer;
 use std::io;
 
 // Gate k's mask. Plain: qubit 0. In layers of 8: row k of an 8 x 8 grid of qubits in one layer, column k in the next, so
@@ -25,10 +24,8 @@ fn mask_of(layers: bool, k: usize) -> u64 {
 // The masks of all gates.
 fn all_masks(layers: bool) -> [u64; 512] {
     let mut masks = [0u64; 512];
-    let mut k: usize = 0;
-    while k < 512 {
+    for k in 0..512 {
         masks[k] = mask_of(layers, k);
-        k += 1;
     }
     masks
 }
@@ -38,7 +35,7 @@ fn gates(n: usize, front: bool, layers: bool) -> [u8; 9218] {
     let ends = [front; 512];
     let masks = all_masks(layers);
     let mut file = [0u8; 9218];
-    writing::write_gates(n, &ends, &masks, &mut file);
+    let _ = writing::write_gates(n, &ends, &masks, &mut file);
     file
 }
 
@@ -68,8 +65,8 @@ fn print_refusal(rt: &impl Print, r: Refusal) -> io::Result<()> {
     print_number(rt, file::refusal_number(r) as usize)?;
     let value = file::refusal_value(r);
     match value {
-        RefusalValue::Nothing => {}
-        RefusalValue::At(i) => {
+        None => {}
+        Some(i) => {
             print(rt, b" at ")?;
             print_number(rt, i)?;
         }
@@ -88,12 +85,12 @@ fn print_insertion(
     let inserted = insertion::insert(dag, record);
     let answer = inserted.answer;
     match answer {
-        Answer::Node(v) => {
+        Ok(v) => {
             print(rt, b"node ")?;
             print_number(rt, v.0 as usize)?;
             print(rt, b"\n")?;
         }
-        Answer::Refused(r) => print_refusal(rt, r)?,
+        Err(r) => print_refusal(rt, r)?,
     }
     Ok(())
 }
@@ -134,11 +131,11 @@ fn print_load(
     let loaded = insertion::load(&bytes[start..n]);
     let answer = loaded.answer;
     match answer {
-        Outcome::Done => {
+        Ok(()) => {
             print_graph(rt, title, loaded.graph, v)?;
             print_insertion(rt, b"  one more: ", loaded.graph, record)?;
         }
-        Outcome::Refused(r) => {
+        Err(r) => {
             print(rt, title)?;
             print_refusal(rt, r)?;
         }
@@ -175,11 +172,9 @@ fn measured(length: u16, first: usize, c: usize) -> [u8; 117]
     writing::put_u16(&mut file, 25, length);
     file[38] = 3;
     file[41] = c as u8;
-    let mut k: usize = 0;
-    while k < c {
+    for k in 0..c {
         file[42 + 3 * k] = 1;
         writing::put_u16(&mut file, 43 + 3 * k, (first + k) as u16);
-        k += 1;
     }
     file
 }

@@ -1,21 +1,15 @@
--- The loop of add_edges: new edges behind the old ones. Assumes nothing.
-use mathlib.Core.Path.{◌≡◌, refl, sym, ◌∙◌}
-use mathlib.Core.Bool.{Bool}
-use mathlib.Core.List.{List, [], ◌∷◌, ◌++◌, map, append_assoc, append-nil, map-append}
-use Prim.Native.Nat.{ℕ, suc, ◌+◌, ◌<◌, ◌≤◌}
-use native.Mathlib.Numerals.{add-one}
-use native.Mathlib.Omega.{arith}
-use lib.ListN.{length, get_or, take, drop, set, length-set, length-append, length-map, take-append-drop}
-use lib.Seq.{take-suc, drop-cons, set_at, length-take-le}
-use Rattle.graph.specs.Dag.{Edge, appended}
-use Rattle.links.specs.Links.{link}
-use Rattle.links.specs.Ends.{EdgesAdded}
-
-pub appended-none : (n : ℕ) (old : List ℕ) → n ≤ length old → appended n [] old ≡ old
-appended-none n old h = rw (append-nil (take n old), length-take-le n old h, take-append-drop) refl
+-- New edges behind the old ones. Assumes nothing.
+use Rattle.std.proofs.Common.{◌≡◌, refl, sym, ◌∙◌, List, [], ◌∷◌, ◌++◌, map, ℕ, suc, ◌+◌, ◌<◌, ◌≤◌, length, get_or, set, take, drop, arith}
+use Rattle.std.proofs.Common.{append_assoc, length-append, drop-cons, length-take-le, take-append-drop, append-nil, add-one}
+use Rattle.std.proofs.lemmas.List.{map-append, take_all}
+use lib.ListN.{length-map}
+use lib.Seq.{set_at, take-suc}
+use Rattle.graph.specs.declared.Edges.{Edges}
+use Rattle.graph.specs.Dag.{Edge, appended, with_edges}
+use Rattle.links.specs.Ends.{with_edge}
 
 -- one entry more behind those written
-pub appended_more : (n j : ℕ) (new old : List ℕ) (x : ℕ) → length new ≡ j → n + j < length old → set (appended n new old) (n + j) x ≡ appended n (new ++ (x ∷ [])) old
+appended_more : (n j : ℕ) (new old : List ℕ) (x : ℕ) → length new ≡ j → n + j < length old → set (appended n new old) (n + j) x ≡ appended n (new ++ (x ∷ [])) old
 appended_more n j new old x e h =
     let t : length (take n old) ≡ n = length-take-le n old (omega arith) in
     let p : length (take n old ++ new) ≡ n + j = rw (length-append (take n old) new, t, e) refl in
@@ -24,67 +18,46 @@ appended_more n j new old x e h =
     rw (length-append (take n old) (new ++ (x ∷ [])), length-append new (x ∷ []), t, e) (omega arith) in
     rw (p, q, c, set_at (take n old ++ new) (get_or old (n + j) 0) (drop (suc (n + j)) old) x (n + j) p) (simp append_assoc)
 
-pub map_next : {A : Type 0} (f : ℕ → A) (l : List ℕ) (i : ℕ) → i < length l → map f (take (i + 1) l) ≡ map f (take i l) ++ (f (get_or l i 0) ∷ [])
-map_next f l i h = rw (add-one, take-suc l i 0 h) (map-append f (take i l) (get_or l i 0 ∷ []))
+appended_none : (n : ℕ) (old : List ℕ) → n ≤ length old → appended n [] old ≡ old
+appended_none n old h = rw (append-nil (take n old), length-take-le n old h, take-append-drop) refl
 
-module _ (front : Bool) (v : ℕ) (others : List ℕ) (k count : ℕ) (from₀ to₀ : List ℕ) where
-  -- the edges with the first i of the others are written
-  pub record EdgeInv (from to : List ℕ) (i : ℕ) : Type 0 where
-    pub within : i ≤ k
-    pub room : count + k ≤ 2048
-    pub low : k ≤ 64
-    pub size : length others ≡ 64
-    pub from_size₀ : length from₀ ≡ 2048
-    pub to_size₀ : length to₀ ≡ 2048
-    pub from_size : length from ≡ 2048
-    pub to_size : length to ≡ 2048
-    pub from_is : from ≡ appended count (map (λ (e : Edge). e.from) (map (link front v) (take i others))) from₀
-    pub to_is : to ≡ appended count (map (λ (e : Edge). e.to) (map (link front v) (take i others))) to₀
+-- the first i of the edges to the others are written, and not counted
+pub record Added (es now : Edges) (f : ℕ → Edge) (others : List ℕ) (i : ℕ) : Type 0 where
+  pub from_size : length es.from ≡ 2048
+  pub to_size : length es.to ≡ 2048
+  pub count : now.count ≡ es.count
+  pub from : now.from ≡ appended es.count (map (λ (e : Edge). e.from) (map f (take i others))) es.from
+  pub to : now.to ≡ appended es.count (map (λ (e : Edge). e.to) (map f (take i others))) es.to
 
-  pub edge_begin : k ≤ 64 → count + k ≤ 2048 → length others ≡ 64 → length from₀ ≡ 2048 → length to₀ ≡ 2048 → EdgeInv from₀ to₀ 0
-  edge_begin low room size hf ht = record {
-    within = omega arith;
-    room = room;
-    low = low;
-    size = size;
-    from_size₀ = hf;
-    to_size₀ = ht;
+module _ (es : Edges) (f : ℕ → Edge) (others : List ℕ) where
+  pub added_none : length es.from ≡ 2048 → length es.to ≡ 2048 → es.count ≤ 2048 → Added es es f others 0
+  added_none hf ht h = record {
     from_size = hf;
     to_size = ht;
-    from_is = sym (appended-none count from₀ (omega arith));
-    to_is = sym (appended-none count to₀ (omega arith));
+    count = refl;
+    from = sym (appended_none es.count es.from (omega arith));
+    to = sym (appended_none es.count es.to (omega arith));
   }
 
   -- one array: entry count + i is written
-  next : (g : Edge → ℕ) (l₀ l l' : List ℕ) (i : ℕ) → i < length others → length l₀ ≡ 2048 → count + i < 2048
-      → l ≡ appended count (map g (map (link front v) (take i others))) l₀ → l' ≡ set l (count + i) (g (link front v (get_or others i 0)))
-      → l' ≡ appended count (map g (map (link front v) (take (i + 1) others))) l₀
-  next g l₀ l l' i h size room e e' =
-      let n : length (map g (map (link front v) (take i others))) ≡ i =
-      rw (length-map (map (link front v) (take i others)) g, length-map (take i others) (link front v)) (length-take-le i others (omega arith)) in
-      let m = appended_more count i (map g (map (link front v) (take i others))) l₀ (g (link front v (get_or others i 0))) n (omega arith) in
-      rw (e', e, m, map_next (link front v) others i h, map-append g (map (link front v) (take i others)) (link front v (get_or others i 0) ∷ [])) refl
+  next : (g : Edge → ℕ) (old : List ℕ) (i : ℕ) → i < length others → es.count + i < length old
+      → set (appended es.count (map g (map f (take i others))) old) (es.count + i) (g (f (get_or others i 0))) ≡ appended es.count (map g (map f (take (i + 1) others))) old
+  next g old i h room =
+      let n : length (map g (map f (take i others))) ≡ i = rw (length-map (map f (take i others)) g, length-map (take i others) f) (length-take-le i others (omega arith)) in
+      let t : take (i + 1) others ≡ take i others ++ (get_or others i 0 ∷ []) = rw (add-one, take-suc others i 0 h) refl in
+      appended_more es.count i (map g (map f (take i others))) old (g (f (get_or others i 0))) n room
+      ∙ rw (t, map-append f (take i others) (get_or others i 0 ∷ []), map-append g (map f (take i others)) (f (get_or others i 0) ∷ [])) refl
 
-  pub edge-step : (from to : List ℕ) (i : ℕ) → EdgeInv from to i → i < k → (from' to' : List ℕ)
-      → from' ≡ set from (count + i) (link front v (get_or others i 0)).from → to' ≡ set to (count + i) (link front v (get_or others i 0)).to
-      → EdgeInv from' to' (i + 1)
-  edge-step from to i a more from' to' hf ht = record {
-    within = omega arith;
-    room = a.room;
-    low = a.low;
-    size = a.size;
-    from_size₀ = a.from_size₀;
-    to_size₀ = a.to_size₀;
-    from_size = rw (hf, length-set) a.from_size;
-    to_size = rw (ht, length-set) a.to_size;
-    from_is = next (λ (e : Edge). e.from) from₀ from from' i (omega (arith, a)) a.from_size₀ (omega (arith, a)) a.from_is hf;
-    to_is = next (λ (e : Edge). e.to) to₀ to to' i (omega (arith, a)) a.to_size₀ (omega (arith, a)) a.to_is ht;
+  pub added_more : (now : Edges) (i : ℕ) → Added es now f others i → i < length others → es.count + length others ≤ 2048
+      → (now' : Edges) → now' ≡ with_edge now (es.count + i) (f (get_or others i 0)) → Added es now' f others (i + 1)
+  added_more now i a h room now' e = record {
+    from_size = a.from_size;
+    to_size = a.to_size;
+    count = rw e a.count;
+    from = rw (e, a.from) (next (λ (e : Edge). e.from) es.from i h (omega (arith, a.from_size)));
+    to = rw (e, a.to) (next (λ (e : Edge). e.to) es.to i h (omega (arith, a.to_size)));
   }
 
-  pub edge_end : (from to : List ℕ) (i : ℕ) → k ≤ i → EdgeInv from to i → EdgesAdded front v others k count from₀ to₀ from to
-  edge_end from to i h a =
-      let z : i ≡ k = omega (arith, a.within) in
-      let n : length (map (link front v) (take k others)) ≡ k = length-map (take k others) (link front v) ∙ length-take-le k others (omega (arith, a)) in
-      let f = rw z at a.from_is in
-      let t = rw z at a.to_is in
-      record { is = rw (n, f, t) refl; from_size = a.from_size; to_size = a.to_size }
+  pub added_all : (now : Edges) (i : ℕ) → length others ≤ i → Added es now f others i
+      → record { count = es.count + length others; from = now.from; to = now.to } ≡ with_edges es (map f others)
+  added_all now i h a = rw (a.from, a.to, take_all i others h, length-map others f) refl

@@ -1,6 +1,7 @@
 pub mod QubitLaws
 pub mod LinkLaws
-pub mod LinkLoops
+pub mod OtherLaws
 pub mod EdgeLaws
+pub mod EndLaws
 pub mod JoinLaws
 pub mod LinkingLaws

@@ -19,6 +19,8 @@ use Rattle.graph.specs.Soundness.{ascends}
 use Rattle.file.proofs.BoolLaws.{bool_cases, clash_bool, both_true, flip-not}
 use Rattle.graph.proofs.ListLaws.{distinct_first, distinct-rest, distinct_more, any-later}
 use Rattle.links.specs.Links.{Linked, FarRule, near_all, far_all, source, near_after, far_after, no_qubit, qubits}
+use Rattle.links.specs.declared.LoadingRule.{LoadingRule}
+use Rattle.links.specs.declared.LoadingRule.TheVariants.{NearAll, FarAll}
 use Rattle.links.specs.Links.{link_qubits, link_set, mapped, link_all, link_by}
 use Rattle.links.specs.Links.{link_at, rule_of, qubits_from, edge_bound}
 use Rattle.links.proofs.QubitLaws.{all_more, all_first, all_rest, qubits_ascend}
@@ -96,7 +98,7 @@ qubits_in (suc k) j m q h = go (eqb (m % 2) 1) (λ t. omega (arith, qubits_in k 
 abbrev pub add_present : ℕ → List ℕ → List ℕ
 add_present u l = cond (present u) (add u l) l
 
-add-length : (u : ℕ) (l : List ℕ) → length (add_present u l) ≤ length l + 1
+pub add-length : (u : ℕ) (l : List ℕ) → length (add_present u l) ≤ length l + 1
 add-length u l = go (present u) (member u l)
   where
     go : (a b : Bool) → length (cond a (cond b l (l ++ (u ∷ []))) l) ≤ length l + 1
@@ -289,16 +291,17 @@ far_here rule near far v q h =
 abbrev pub NamesAll : FarRule → Type 0
 NamesAll rule = (near far : End) → present (rule near far) ≡ true → (rule near far ≡ near.all.0) ⊎ (rule near far ≡ far.all.0)
 
-pub names_all : (b : Bool) → NamesAll (rule_of b)
-names_all false near far p = inl refl
-names_all true near far p = inr refl
+pub names_all : (b : LoadingRule) → NamesAll (rule_of b)
+names_all NearAll near far p = inl refl
+names_all FarAll near far p = inr refl
 
 -- what the rule names is the same after one qubit
 abbrev pub Steady : FarRule → Type 0
 Steady rule = (near far : End) (v q : ℕ) → rule (near_after near q v) (far_after rule near far q v) ≡ rule near far
 
-pub steady_rule : (b : Bool) → Steady (rule_of b)
-steady_rule b near far v q = refl
+pub steady_rule : (b : LoadingRule) → Steady (rule_of b)
+steady_rule NearAll near far v q = refl
+steady_rule FarAll near far v q = refl
 
 module _ (rule : FarRule) (v q : ℕ) where
   -- a qubit that is not among them keeps its entries

@@ -5,6 +5,8 @@ use Rattle.file.specs.Lists.{any_of, cons_if, add, is_empty}
 use Rattle.file.specs.declared.InvolvedQubits.{InvolvedQubits}
 use Rattle.file.specs.declared.InvolvedQubits.TheVariants.{None, All, Set}
 use Rattle.graph.specs.declared.End.{End}
+use Rattle.links.specs.declared.LoadingRule.{LoadingRule}
+use Rattle.links.specs.declared.LoadingRule.TheVariants.{NearAll, FarAll}
 use Rattle.graph.specs.Dag.{Edge, present, or_else, node, edge, at_qubit}
 
 -- "bit q for qubit q"; "Qubits are taken from the lowest up": of the k lowest bits of m those set, as q, q + 1, ..
@@ -35,22 +37,16 @@ near_all near far = near.all.0
 abbrev pub far_all : End → End → ℕ
 far_all near far = far.all.0
 
--- which of the two the code is given: the other end's if it is true
-abbrev pub LoadingRule : Type 0
-LoadingRule = Bool
-
--- document 01's
-abbrev pub NearAll : LoadingRule
-NearAll = false
-
--- K6's: "a new qubit added at the back gets first[q] = firstAll, and one added at the front gets last[q] = lastAll, or the new node itself where that
--- is absent"
-abbrev pub FarAll : LoadingRule
-FarAll = true
-
--- the rule that it stands for
+-- the rule that the code is given; K6's, FarAll: "a new qubit added at the back gets first[q] = firstAll, and one added at the front gets
+-- last[q] = lastAll, or the new node itself where that is absent"
 abbrev pub rule_of : LoadingRule → FarRule
-rule_of rule near far = cond rule (far_all near far) (near_all near far)
+rule_of NearAll = near_all
+rule_of FarAll = far_all
+
+-- whether it is K6's
+abbrev pub is_far : LoadingRule → Bool
+is_far NearAll = false
+is_far FarAll = true
 
 -- "the source is last[q], else lastAll"
 abbrev pub source : End → ℕ → ℕ

@@ -1,45 +1,198 @@
-// The edges and end entries of one insertion, over lent number arrays. near is the end of the insertion (last at the back,
-// first at the front), far the other.
-ghost use Rattle.std.specs.Prelude.{◌≡◌, true, false, not, cond, ◌&&◌, ℕ, ◌+◌, ◌-◌, ◌^◌, ◌≤◌, ◌<◌, ltb, length, get_or, set, take, replicate};
+// The two ends of one insertion. near is the end of the insertion (last at the back, first at the front), far the other.
+ghost use Rattle.std.specs.Prelude.{◌≡◌, true, false, not, cond, ◌&&◌, List, [], map, ℕ, ◌+◌, ◌-◌, ◌≤◌, ◌<◌, ltb, length, set, replicate};
 ghost use Rattle.std.specs.Int.Bits.{bit_and};
 ghost use Rattle.std.specs.Int.Count.{count_trailing_zeros};
-ghost use Rattle.file.specs.Lists.{member, any_of};
-ghost use Rattle.graph.specs.Dag.{absent, present, or_else};
-ghost use Rattle.links.specs.Links.{rule_of, qubits, link_set, link_all, link_by, link};
-ghost use Rattle.links.specs.Ends.{entry_at, with_entry, end_state, Only, OtherAdded, Gives, SetLinked, AllLinked, StateGrown, near_state, far_state};
-ghost use Rattle.links.specs.Ends.{JoinedBy, JoinedEndsBy, EdgesAdded, lent_end, LentFits, joined, joined_ends};
-ghost use Rattle.links.specs.Links.{link_at, edge_bound};
+ghost use Rattle.file.specs.Lists.{any_of, add};
+ghost use Rattle.graph.specs.Dag.{absent, present, or_else, node, no_end};
+ghost use Rattle.graph.specs.declared.End.{End};
+ghost use Rattle.links.specs.Links.{rule_of, qubits, near_after, far_after, source, no_qubit, mapped, link_set, link_all, link_by, link_at, edge_bound};
+ghost use Rattle.links.specs.Ends.{entry_at, with_entry, IsOnly, EndFits, Joined, JoinedEnds};
 
 use crate::LoadingRule;
+use crate::others::Others;
 use file::InvolvedQubits;
-use graph::{NodeIndex, Qubit};
+use graph::{End, NodeIndex, Qubit};
+use std::marker::Model;
 
-// The three numbers of one end beside its arrays are lent as an array, so that no struct is copied for each record: the all-qubit node, ..
-pub(crate) const ALL: usize = 0;
-
-// .. a bound from which on no qubit is mapped, ..
-const TOP: usize = 1;
-
-// .. and what is known of the block: 65535 where it has no node, a node that it has alone, 65534 where it has nodes.
-const MEMBERS: usize = 2;
-
-// The entry of qubit q in the map from qubit to node. Linking reads and writes such a map by a Qubit, so that a node
-// number handed over as a qubit is a type error.
-pub(crate) fn node_at(map: &[u16; 64], q: Qubit) -> NodeIndex
-    requires { (q.0 < 64) × (length map.now ≡ 64) }
-    ensures { result.0 ≡ entry_at map.now q }
-{
-    let i = q.0 as usize;
-    NodeIndex(map[i])
+// What is known of the nodes of a block: that it has none, that it has one alone, or that it has one or more.
+#[derive(Clone, Copy)]
+enum Members {
+    Empty,
+    Only(NodeIndex),
+    Several,
 }
 
-// The entry of qubit q becomes v.
-pub(crate) fn set_node(map: &mut [u16; 64], q: Qubit, v: NodeIndex)
-    requires { q.0 < 64 }
-    ensures { map.new ≡ with_entry map.old q v }
+// One end as insertions hold it. From qubit top on its map has no entry, and members is known of its block, so that few entries are read.
+#[derive(Drop)]
+pub(crate) struct WorkingEnd {
+    end: End,
+    top: usize,
+    members: Members,
+}
+
+// Contracts see the end alone.
+impl Model for WorkingEnd {
+    ghost use Rattle.graph.specs.declared.End.{End};
+    ghost use Rattle.links.specs.Ends.{Known};
+
+    ghost Value = { End };
+
+    ghost view = { λ w. w.end };
+
+    ghost invariant = { λ w. Known w.end w.top w.members };
+}
+
+impl WorkingEnd {
+    // An end without nodes.
+    pub(crate) fn new() -> WorkingEnd
+        ensures { result ≡ no_end }
+    {
+        WorkingEnd {
+            end: graph::no_end(),
+            top: 0,
+            members: Members::Empty,
+        }
+    }
+
+    // An end of a graph, of whose block it is known only whether it has a node.
+    pub(crate) fn of(end: End) -> WorkingEnd
+        ensures same { result ≡ end }
+        ensures sized { length end.node ≡ 64 }
+    {
+        let members = if graph::has_member(end.block) {
+            Members::Several
+        } else {
+            Members::Empty
+        };
+        WorkingEnd {
+            end,
+            top: 64,
+            members,
+        }
+    }
+
+    pub(crate) fn into_end(self) -> End
+        ensures { result ≡ self }
+    {
+        self.end
+    }
+
+    fn all(&self) -> NodeIndex
+        ensures { result ≡ self.now.all }
+    {
+        self.end.all
+    }
+
+    // The entry of qubit q in the map from qubit to node. Linking reads and writes such a map by a Qubit, so that a node
+    // number handed over as a qubit is a type error.
+    fn node_at(&self, q: Qubit) -> NodeIndex
+        requires { q.0 < 64 }
+        ensures { result.0 ≡ entry_at self.now.node q }
+    {
+        NodeIndex(self.end.node[usize::from(q.0)])
+    }
+
+    // The entry of qubit q becomes v.
+    fn set_node(&mut self, q: Qubit, v: NodeIndex)
+        requires { q.0 < 64 }
+        ensures { self.new ≡ record self.old { node = with_entry self.old.node q v } }
+    {
+        let i = usize::from(q.0);
+        self.end.node[i] = v.0;
+        self.top = usize::max(self.top, i + 1);
+    }
+
+    // The source, where there is one, leaves the block, and v joins it.
+    fn replace(&mut self, source: NodeIndex, v: NodeIndex)
+        requires { (v.0 < 512) × (present source.0 ≡ true → source.0 < 512) }
+        ensures { self.new ≡ record self.old { block = set (cond (present source.0) (set self.old.block source.0 false) self.old.block) v.0 true } }
+    {
+        if source.0 != 65535 {
+            self.end.block[usize::from(source.0)] = false;
+        }
+        self.end.block[usize::from(v.0)] = true;
+        self.members = Members::Several;
+    }
+
+    // v joins the block, if it does.
+    fn join_block(&mut self, v: NodeIndex, joins: bool)
+        requires { v.0 < 512 }
+        ensures { self.new ≡ record self.old { block = cond joins (set self.old.block v.0 true) self.old.block } }
+    {
+        if joins {
+            self.end.block[usize::from(v.0)] = true;
+            self.members = Members::Several;
+        }
+    }
+
+    // "lastAll becomes v; the last block becomes {v}".
+    fn keep_only(&mut self, v: NodeIndex)
+        requires { v.0 < 512 }
+        ensures { self.new ≡ record self.old { all = v; block = set (replicate 512 false) v.0 true } }
+    {
+        clear_block(&mut self.end.block, self.members);
+        self.end.block[usize::from(v.0)] = true;
+        self.end.all = v;
+        self.members = Members::Only(v);
+    }
+
+    // "firstAll becomes v if absent; v joins the first block if that is empty".
+    fn admit(&mut self, v: NodeIndex)
+        requires { v.0 < 512 }
+        ensures { self.new ≡ record self.old {
+          all = node (or_else self.old.all.0 v.0);
+          block = cond (any_of (λ b. b) self.old.block) self.old.block (set self.old.block v.0 true);
+        } }
+    {
+        self.end.all = or_else(self.end.all, v);
+        if let Members::Empty = self.members {
+            self.end.block[usize::from(v.0)] = true;
+            self.members = Members::Several;
+        }
+    }
+
+    // Whether the map has a qubit.
+    fn has_qubit(&self) -> bool
+        ensures { result ≡ any_of present self.now.node }
+    {
+        self.end.node[..self.top].iter().any(|u| *u != 65535)
+    }
+
+    // Every node in the map is joined with v, and its qubits map to v.
+    fn map_all(&mut self, v: NodeIndex, others: &mut Others)
+        requires { others.old ≡ [] }
+        ensures nodes { self.new ≡ record self.old { node = map (λ (u : ℕ). cond (present u) v.0 u) self.old.node } }
+        ensures joined { others.new ≡ mapped self.old.node [] }
+    {
+        map_to(&mut self.end.node[..self.top], v, others);
+    }
+}
+
+// The block loses its nodes. Where it is known to have one alone, that one is taken out, else the whole is cleared.
+fn clear_block(block: &mut [bool; 512], members: Members)
+    requires { IsOnly members block.old }
+    ensures { block.new ≡ replicate 512 false }
 {
-    let i = q.0 as usize;
-    map[i] = v.0;
+    match members {
+        Members::Only(u) => block[usize::from(u.0)] = false,
+        _ => *block = [false; 512],
+    }
+}
+
+// The entries with a node become v, and their nodes join the others. Each is written before its node joins, which was faster.
+fn map_to(entries: &mut [u16], v: NodeIndex, others: &mut Others)
+    requires few { length entries.old ≤ 64 }
+    requires none { others.old ≡ [] }
+    ensures nodes { entries.new ≡ map (λ (u : ℕ). cond (present u) v.0 u) entries.old }
+    ensures joined { others.new ≡ mapped entries.old [] }
+{
+    for u in entries.iter_mut() {
+        if *u != 65535 {
+            let old = NodeIndex(*u);
+            *u = v.0;
+            others.add(old);
+        }
+    }
 }
 
 // a, else b.
@@ -50,18 +203,14 @@ fn or_else(a: NodeIndex, b: NodeIndex) -> NodeIndex
 }
 
 // What a new qubit's entry at the far end becomes: the rule's all-qubit node, else v.
-fn fresh_entry(
-    rule: LoadingRule,
-    near_all: NodeIndex,
-    far_all: NodeIndex,
-    v: NodeIndex,
-) -> NodeIndex
-    ensures { Gives (rule_of rule) v.0 near_all far_all result.0 }
+fn fresh_entry(rule: LoadingRule, near: &WorkingEnd, far: &WorkingEnd, v: NodeIndex) -> NodeIndex
+    ensures { result.0 ≡ or_else (rule_of rule near.now far.now) v.0 }
 {
-    if rule {
-        return or_else(far_all, v);
-    }
-    or_else(near_all, v)
+    let all = match rule {
+        LoadingRule::NearAll => near.all(),
+        LoadingRule::FarAll => far.all(),
+    };
+    or_else(all, v)
 }
 
 // The lowest qubit of a mask.
@@ -112,428 +261,112 @@ pub(crate) fn edges_pass(edges: usize, k: usize, qubits: InvolvedQubits) -> bool
     2048 < edges + k
 }
 
-// Whether s is among the first k of others.
-fn holds(others: &[u16; 64], k: usize, s: NodeIndex) -> bool
-    requires { (k ≤ 64) × (length others.now ≡ 64) }
-    ensures { result ≡ member s.0 (take k others.now) }
-{
-    let mut i: usize = 0;
-    while i < k {
-        if others[i] == s.0 {
-            return true;
-        }
-        i += 1;
-    }
-    false
-}
-
-// The map's entry of a qubit that was absent, its entry having been old, becomes v.
-fn set_new(map: &mut [u16; 64], q: Qubit, old: NodeIndex, v: NodeIndex)
-    requires { q.0 < 64 }
-    ensures { map.new ≡ cond (present old.0) map.old (set map.old q.0 v.0) }
-{
-    if old.0 == 65535 {
-        set_node(map, q, v);
-    }
-}
-
-// The map's entry of a qubit that was present, its entry having been old, becomes v.
-fn set_known(map: &mut [u16; 64], q: Qubit, old: NodeIndex, v: NodeIndex)
-    requires { q.0 < 64 }
-    ensures { map.new ≡ cond (present old.0) (set map.old q.0 v.0) map.old }
-{
-    if old.0 != 65535 {
-        set_node(map, q, v);
-    }
-}
-
-// The source, where there is one, leaves the block, and v joins it.
-fn replace_in(block: &mut [bool; 512], source: NodeIndex, v: NodeIndex)
-    requires { (v.0 < 512) × (present source.0 ≡ true → source.0 < 512) }
-    ensures { block.new
-        ≡ set (cond (present source.0) (set block.old source.0 false) block.old) v.0 true }
-{
-    let w = v.0 as usize;
-    if source.0 == 65535 {
-        block[w] = true;
-        return;
-    }
-    let u = source.0 as usize;
-    block[u] = false;
-    block[w] = true;
-}
-
-// v joins the block, if it does.
-fn join_block(block: &mut [bool; 512], v: NodeIndex, joins: bool)
-    requires { v.0 < 512 }
-    ensures { block.new ≡ cond joins (set block.old v.0 true) block.old }
-{
-    let w = v.0 as usize;
-    if joins {
-        block[w] = true;
-    }
-}
-
-// The block becomes {v}. Where one node is known to be all that it has, that one is taken out, else the whole is cleared.
-fn keep_only(block: &mut [bool; 512], members: u16, v: NodeIndex)
-    requires { (v.0 < 512) × Only members block.old }
-    ensures { block.new ≡ set (replicate 512 false) v.0 true }
-{
-    let w = v.0 as usize;
-    if members < 512 {
-        let one = members as usize;
-        block[one] = false;
-        block[w] = true;
-        return;
-    }
-    *block = [false; 512];
-    block[w] = true;
-}
-
-// The node s, where there is one, joins the first k of others unless it is among them; how many there are then.
-fn add_other(others: &mut [u16; 64], k: usize, s: NodeIndex) -> usize
-    requires { (k < 64) × (length others.old ≡ 64) }
-    ensures { OtherAdded s.0 k others.old others.new result }
-{
-    if s.0 == 65535 {
-        return k;
-    }
-    if holds(&*others, k, s) {
-        return k;
-    }
-    others[k] = s.0;
-    k + 1
-}
-
-// Insertion of v on the qubits of the mask: both maps, near's block, and the distinct nodes that v is joined with, whose
-// count is returned. A new qubit's entry in far becomes fresh.
-fn link_set(
-    near_node: &mut [u16; 64],
-    far_node: &mut [u16; 64],
-    near_block: &mut [bool; 512],
-    others: &mut [u16; 64],
-    all: NodeIndex,
+// "Set, each qubit q": a qubit that is new at the near end becomes fresh at the far end.
+fn link_qubit(
+    near: &mut WorkingEnd,
+    far: &mut WorkingEnd,
+    others: &mut Others,
+    q: Qubit,
     fresh: NodeIndex,
     v: NodeIndex,
-    mask: u64,
-) -> usize
-    requires v_bound { (v.0 < 512) × (present all.0 ≡ true → all.0 < 512)
-        × (length near_node.old ≡ 64) × (length others.old ≡ 64) }
-    requires by_index { (q : ℕ) → present (get_or near_node.old q absent) ≡ true → get_or near_node.old q absent < 512 }
-    ensures { SetLinked mask v.0 all fresh.0 near_node.old far_node.old near_block.old
-        near_node.new far_node.new near_block.new others.new result }
+)
+    requires numbers { (q.0 < 64) × (v.0 < 512) }
+    requires from { present (source near.old q.0) ≡ true → source near.old q.0 < 512 }
+    requires room { length others.old < 64 }
+    ensures near { near.new ≡ near_after near.old q.0 v.0 }
+    ensures far { far.new ≡ record far.old { node = cond (present (entry_at near.old.node q)) far.old.node (set far.old.node q.0 fresh.0) } }
+    ensures others { others.new ≡ cond (present (source near.old q.0)) (add (source near.old q.0) others.old) others.old }
 {
-    let mut k: usize = 0;
-    let mut m = mask;
-    while m != 0 {
-        let q = lowest(m);
-        m = without_lowest(m);
-        let old = node_at(&*near_node, q);
-        let source = or_else(old, all);
-        set_node(&mut *near_node, q, v);
-        set_new(&mut *far_node, q, old, fresh);
-        replace_in(&mut *near_block, source, v);
-        k = add_other(&mut *others, k, source);
+    let old = near.node_at(q);
+    let source = or_else(old, near.all());
+    near.set_node(q, v);
+    near.replace(source, v);
+    others.add(source);
+    if old.0 == 65535 {
+        far.set_node(q, fresh);
     }
-    k
-}
-
-// Every node in near's map is joined with v, and its qubits map to v; none is mapped from top on. Returns how many there are.
-fn link_all(near_node: &mut [u16; 64], others: &mut [u16; 64], v: NodeIndex, top: u16) -> usize
-    requires top_bound { (top ≤ 64) × (length near_node.old ≡ 64) × (length others.old ≡ 64) }
-    requires by_index { (q : ℕ) → top ≤ q → get_or near_node.old q absent ≡ absent }
-    ensures { AllLinked v.0 near_node.old near_node.new others.new result }
-{
-    let mut k: usize = 0;
-    let mut i: u16 = 0;
-    while i < top {
-        let q = Qubit(i as u8);
-        let old = node_at(&*near_node, q);
-        set_known(&mut *near_node, q, old, v);
-        k = add_other(&mut *others, k, old);
-        i += 1;
-    }
-    k
-}
-
-// Whether the map is empty; no qubit is mapped from top on.
-fn no_qubit(map: &[u16; 64], top: u16) -> bool
-    requires top_bound { (top ≤ 64) × (length map.now ≡ 64) }
-    requires by_index { (q : ℕ) → top ≤ q → get_or map.now q absent ≡ absent }
-    ensures { result ≡ not (any_of present map.now) }
-{
-    let mut i: u16 = 0;
-    while i < top {
-        let u = node_at(map, Qubit(i as u8));
-        if u.0 != 65535 {
-            return false;
-        }
-        i += 1;
-    }
-    true
-}
-
-// Whether both maps are empty.
-fn no_qubits(near_node: &[u16; 64], near_top: u16, far_node: &[u16; 64], far_top: u16) -> bool
-    requires near_top_bound { (near_top ≤ 64) × (length near_node.now ≡ 64)
-        × ((q : ℕ) → near_top ≤ q → get_or near_node.now q absent ≡ absent) }
-    requires far_top_bound { (far_top ≤ 64) × (length far_node.now ≡ 64)
-        × ((q : ℕ) → far_top ≤ q → get_or far_node.now q absent ≡ absent) }
-    ensures { result ≡ (not (any_of present near_node.now) && not (any_of present far_node.now)) }
-{
-    if no_qubit(near_node, near_top) {
-        return no_qubit(far_node, far_top);
-    }
-    false
-}
-
-// A bound above every qubit of the mask.
-fn mask_top(mask: u64) -> u16
-    ensures { (mask < 2 ^ result) × (result ≤ 64) }
-{
-    64 - (u64::leading_zeros(mask) as u16)
-}
-
-// The larger of two bounds.
-fn larger(a: u16, b: u16) -> u16
-    requires { (a ≤ 64) × (b ≤ 64) }
-    ensures { (a ≤ result) × (b ≤ result) × (result ≤ 64) }
-{
-    if a < b { b } else { a }
-}
-
-// The numbers of an end whose map got entries below t, and whose block got a node where it joins.
-fn grow_end(numbers: &mut [u16; 3], t: u16, joins: bool)
-    requires { ((end_state numbers.old).top ≤ 64) × (t ≤ 64) }
-    ensures { StateGrown (end_state numbers.old) t joins (end_state numbers.new) }
-{
-    let all = numbers[ALL];
-    let top = larger(numbers[TOP], t);
-    if joins {
-        *numbers = [all, top, 65534];
-        return;
-    }
-    let members = numbers[MEMBERS];
-    *numbers = [all, top, members];
 }
 
 // v joins both ends as a Set.
 fn join_set(
+    near: &mut WorkingEnd,
+    far: &mut WorkingEnd,
+    others: &mut Others,
     mask: u64,
     v: NodeIndex,
-    near: &mut [u16; 3],
-    far: &mut [u16; 3],
-    near_node: &mut [u16; 64],
-    far_node: &mut [u16; 64],
-    near_block: &mut [bool; 512],
-    far_block: &mut [bool; 512],
-    others: &mut [u16; 64],
     rule: LoadingRule,
-) -> usize
-    requires { (v.0 < 512) × (length others.old ≡ 64)
-        × LentFits v.0 near.old near_node.old near_block.old
-        × LentFits v.0 far.old far_node.old far_block.old }
-    ensures { JoinedBy
-        (link_set (rule_of rule) mask v.0
-        (lent_end near.old near_node.old near_block.old)
-        (lent_end far.old far_node.old far_block.old))
-        (v.0 + 1) (joined result near.new far.new)
-        near_node.new far_node.new near_block.new far_block.new others.new }
+)
+    requires { (v.0 < 512) × EndFits v.0 near.old × EndFits v.0 far.old × (others.old ≡ []) }
+    ensures { Joined (link_set (rule_of rule) mask v.0 near.old far.old) near.new far.new others.new }
 {
-    let all = NodeIndex(near[ALL]);
-    let fresh = fresh_entry(rule, all, NodeIndex(far[ALL]), v);
-    let k = link_set(near_node, far_node, near_block, others, all, fresh, v, mask);
-    let t = mask_top(mask);
-    join_block(far_block, v, k == 0);
-    grow_end(near, t, mask != 0);
-    grow_end(far, t, k == 0);
-    k
-}
-
-// The near end's numbers after All, with this bound.
-fn all_near(near: &mut [u16; 3], v: NodeIndex, top: u16)
-    ensures { end_state near.new ≡ near_state v top }
-{
-    *near = [v.0, top, v.0];
-}
-
-// The far end's: v where no all-qubit node was, and a block with a node.
-fn all_far(far: &mut [u16; 3], v: NodeIndex, top: u16)
-    ensures { end_state far.new ≡ far_state (end_state far.old) v top }
-{
-    let all = or_else(NodeIndex(far[ALL]), v);
-    let members = far[MEMBERS];
-    if members == 65535 {
-        *far = [all.0, top, 65534];
-        return;
+    let fresh = fresh_entry(rule, &*near, &*far, v);
+    let mut m = mask;
+    while m != 0 {
+        let q = lowest(m);
+        m = without_lowest(m);
+        link_qubit(near, far, others, q, fresh, v);
     }
-    *far = [all.0, top, members];
+    far.join_block(v, others.len() == 0);
+}
+
+// Whether both maps are empty.
+fn both_empty(near: &WorkingEnd, far: &WorkingEnd) -> bool
+    ensures { result ≡ (no_qubit near.now && no_qubit far.now) }
+{
+    !near.has_qubit() && !far.has_qubit()
 }
 
 // v joins both ends as All.
-fn join_all(
-    v: NodeIndex,
-    near: &mut [u16; 3],
-    far: &mut [u16; 3],
-    near_node: &mut [u16; 64],
-    far_node: &mut [u16; 64],
-    near_block: &mut [bool; 512],
-    far_block: &mut [bool; 512],
-    others: &mut [u16; 64],
-) -> usize
-    requires { (v.0 < 512) × (length others.old ≡ 64)
-        × LentFits v.0 near.old near_node.old near_block.old
-        × LentFits v.0 far.old far_node.old far_block.old }
-    ensures { JoinedBy
-        (link_all v.0
-        (lent_end near.old near_node.old near_block.old)
-        (lent_end far.old far_node.old far_block.old))
-        (v.0 + 1) (joined result near.new far.new)
-        near_node.new far_node.new near_block.new far_block.new others.new }
+fn join_all(near: &mut WorkingEnd, far: &mut WorkingEnd, others: &mut Others, v: NodeIndex)
+    requires { (v.0 < 512) × (others.old ≡ []) }
+    ensures { Joined (link_all v.0 near.old far.old) near.new far.new others.new }
 {
-    let near_top = near[TOP];
-    let far_top = far[TOP];
-    keep_only(near_block, near[MEMBERS], v);
-    join_block(far_block, v, far[MEMBERS] == 65535);
-    if no_qubits(&*near_node, near_top, &*far_node, far_top) {
-        set_node(near_node, Qubit(0), v);
-        set_node(far_node, Qubit(0), v);
-        all_near(near, v, 1);
-        all_far(far, v, 1);
-        return 0;
+    let empty = both_empty(&*near, &*far);
+    near.keep_only(v);
+    far.admit(v);
+    if empty {
+        near.set_node(Qubit(0), v);
+        far.set_node(Qubit(0), v);
+        return;
     }
-    all_near(near, v, near_top);
-    all_far(far, v, far_top);
-    link_all(near_node, others, v, near_top)
+    near.map_all(v, others);
 }
 
-// v joins both ends by the qubits that it involves: how many nodes it is joined with.
-pub(crate) fn join_end(
+// v joins both ends by the qubits that it involves.
+fn join_end(
+    near: &mut WorkingEnd,
+    far: &mut WorkingEnd,
+    others: &mut Others,
     qubits: InvolvedQubits,
     v: NodeIndex,
-    near: &mut [u16; 3],
-    far: &mut [u16; 3],
-    near_node: &mut [u16; 64],
-    far_node: &mut [u16; 64],
-    near_block: &mut [bool; 512],
-    far_block: &mut [bool; 512],
-    others: &mut [u16; 64],
     rule: LoadingRule,
-) -> usize
-    requires { (v.0 < 512) × (length others.old ≡ 64)
-        × LentFits v.0 near.old near_node.old near_block.old
-        × LentFits v.0 far.old far_node.old far_block.old }
-    ensures { JoinedBy
-        (link_by qubits (rule_of rule) v.0
-        (lent_end near.old near_node.old near_block.old)
-        (lent_end far.old far_node.old far_block.old))
-        (v.0 + 1) (joined result near.new far.new)
-        near_node.new far_node.new near_block.new far_block.new others.new }
+)
+    requires { (v.0 < 512) × EndFits v.0 near.old × EndFits v.0 far.old }
+    ensures { Joined (link_by qubits (rule_of rule) v.0 near.old far.old) near.new far.new others.new }
 {
+    others.clear();
     match qubits {
-        InvolvedQubits::None => 0,
-        InvolvedQubits::All => join_all(
-            v, near, far, near_node, far_node, near_block, far_block, others,
-        ),
-        InvolvedQubits::Set(mask) => join_set(
-            mask, v, near, far, near_node, far_node, near_block, far_block, others, rule,
-        ),
+        InvolvedQubits::None => {}
+        InvolvedQubits::All => join_all(near, far, others, v),
+        InvolvedQubits::Set(mask) => join_set(near, far, others, mask, v, rule),
     }
 }
 
 // v joins the graph's two ends: at the back near is last, at the front first.
 pub(crate) fn join_record(
+    first: &mut WorkingEnd,
+    last: &mut WorkingEnd,
+    others: &mut Others,
     front: bool,
     qubits: InvolvedQubits,
     v: NodeIndex,
-    first: &mut [u16; 3],
-    last: &mut [u16; 3],
-    first_node: &mut [u16; 64],
-    last_node: &mut [u16; 64],
-    first_block: &mut [bool; 512],
-    last_block: &mut [bool; 512],
-    others: &mut [u16; 64],
     rule: LoadingRule,
-) -> usize
-    requires { (v.0 < 512) × (length others.old ≡ 64)
-        × LentFits v.0 first.old first_node.old first_block.old
-        × LentFits v.0 last.old last_node.old last_block.old }
-    ensures { JoinedEndsBy front
-        (link_at (rule_of rule) front qubits v.0
-        (lent_end first.old first_node.old first_block.old)
-        (lent_end last.old last_node.old last_block.old))
-        (v.0 + 1) (joined_ends result first.new last.new)
-        first_node.new last_node.new first_block.new last_block.new others.new }
+)
+    requires { (v.0 < 512) × EndFits v.0 first.old × EndFits v.0 last.old }
+    ensures { JoinedEnds front (link_at (rule_of rule) front qubits v.0 first.old last.old) first.new last.new others.new }
 {
     if front {
-        return join_end(
-            qubits,
-            v,
-            first,
-            last,
-            first_node,
-            last_node,
-            first_block,
-            last_block,
-            others,
-            rule,
-        );
+        return join_end(first, last, others, qubits, v, rule);
     }
-    join_end(
-        qubits,
-        v,
-        last,
-        first,
-        last_node,
-        first_node,
-        last_block,
-        first_block,
-        others,
-        rule,
-    )
-}
-
-// Edge number `at` joins u and v: into v at the back, out of v at the front.
-fn put_edge(
-    front: bool,
-    v: NodeIndex,
-    u: NodeIndex,
-    from: &mut [u16; 2048],
-    to: &mut [u16; 2048],
-    at: usize,
-)
-    requires { at < 2048 }
-    ensures { (from.new ≡ set from.old at (link front v.0 u.0).from)
-        × (to.new ≡ set to.old at (link front v.0 u.0).to) }
-{
-    if front {
-        from[at] = v.0;
-        to[at] = u.0;
-        return;
-    }
-    from[at] = u.0;
-    to[at] = v.0;
-}
-
-// The edges of v with the first k of others, behind the count edges that stand.
-pub(crate) fn add_edges(
-    front: bool,
-    v: NodeIndex,
-    others: &[u16; 64],
-    k: usize,
-    from: &mut [u16; 2048],
-    to: &mut [u16; 2048],
-    count: usize,
-)
-    requires { (k ≤ 64) × (count + k ≤ 2048) × (length others.now ≡ 64)
-        × (length from.old ≡ 2048) × (length to.old ≡ 2048) }
-    ensures { EdgesAdded front v.0 others.now k count
-        from.old to.old from.new to.new }
-{
-    let mut i: usize = 0;
-    while i < k {
-        let u = NodeIndex(others[i]);
-        put_edge(front, v, u, &mut *from, &mut *to, count + i);
-        i += 1;
-    }
+    join_end(last, first, others, qubits, v, rule)
 }

@@ -3,27 +3,25 @@
 #![tactic(auto)]
 
 mod ends;
+mod others;
 mod records;
 
-use file::Outcome;
+use file::Refusal;
 use graph::{Edges, End};
 pub use records::{link_node, link_records};
 
-// Which all-qubit node a new qubit's entry at the far end becomes: the near end's, or, if it is true, the far end's. A bool goes by
-// value, so that the compiler knows it in calls that are bound to one rule; an enum goes by reference.
-pub type LoadingRule = bool;
-
-// Document 01's.
-pub const NEAR_ALL: LoadingRule = false;
-
-// K6's.
-pub const FAR_ALL: LoadingRule = true;
+// Which all-qubit node a new qubit's entry at the far end becomes: the near end's, which is document 01's rule, or the far end's, K6's.
+#[derive(Clone, Copy, PartialEq, Eq, Debug)]
+pub enum LoadingRule {
+    NearAll,
+    FarAll,
+}
 
 // How many nodes there are, whether all records were accepted, and the ends and edges that join the nodes.
 #[derive(Clone, Copy)]
 pub struct LinkedRecords {
     pub accepted: usize,
-    pub answer: Outcome,
+    pub answer: Result<(), Refusal>,
     pub edges: Edges,
     pub first: End,
     pub last: End,

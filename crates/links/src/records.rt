@@ -1,17 +1,19 @@
 // The ends and edges of a list of records, and of one record on the ends and edges of a graph. No other part of an insertion reads
 // them, so that a load makes them in a loop of their own.
-ghost use Rattle.std.specs.Prelude.{◌≡◌, true, false, ◌+◌, ◌≤◌, ◌<◌, ltb, length};
+ghost use Rattle.std.specs.Prelude.{◌≡◌, true, false, [], ◌+◌, ◌≤◌, ◌<◌, ltb, length};
 ghost use Rattle.file.specs.Lists.{all_of};
 ghost use Rattle.file.specs.Pairs.{pair_place};
 ghost use Rattle.file.specs.Records.{refusal_from};
+ghost use Rattle.graph.specs.Dag.{empty, no_end};
 ghost use Rattle.graph.specs.Soundness.{named, if_present};
-ghost use Rattle.links.specs.Ends.{end_state, end_state_of, lent_end};
+ghost use Rattle.links.specs.Ends.{EndFits};
 ghost use Rattle.links.specs.Links.{rule_of};
-ghost use Rattle.links.specs.Linking.{links_from, links_stopped, no_links, links_fit, links_kept, link_node, link_records};
+ghost use Rattle.links.specs.Linking.{links_from, links_stopped, no_links, links_fit, links_kept, answered, link_record, link_node, link_records};
 
-use crate::ends::{ALL, add_edges, edges_pass, join_record};
+use crate::ends::{WorkingEnd, edges_pass, join_record};
+use crate::others::{Others, add_edges};
 use crate::{LinkedRecords, LoadingRule};
-use file::{InvolvedQubits, Outcome, Parsed, Place, Refusal};
+use file::{InvolvedQubits, Refusal};
 use graph::{Edges, End, NodeIndex};
 
 // Why record i of a file is not taken, whose bytes were refused with c: the refusal of its place, else c with its number.
@@ -19,10 +21,9 @@ use graph::{Edges, End, NodeIndex};
 fn record_refusal(file: &[u8], i: usize, c: Refusal) -> Refusal
     ensures { result ≡ refusal_from (pair_place file.now i) c i }
 {
-    let place = file::locate_pair(file, i);
-    match place {
-        Place::Refused(r) => r,
-        Place::At { .. } => file::at_record(i, c),
+    match file::locate_pair(file, i) {
+        Err(r) => r,
+        Ok(_) => file::at_record(i, c),
     }
 }
 
@@ -32,7 +33,7 @@ fn links_stopped(k: usize, r: Refusal) -> LinkedRecords
 {
     LinkedRecords {
         accepted: k,
-        answer: Outcome::Refused(r),
+        answer: Err(r),
         edges: graph::no_edges(),
         first: graph::no_end(),
         last: graph::no_end(),
@@ -44,99 +45,114 @@ fn links_kept(v: NodeIndex, edges: Edges, first: End, last: End, r: Refusal) -> 
     ensures { result ≡ links_kept v edges first last r }
 {
     LinkedRecords {
-        accepted: file::to_index(v.0),
-        answer: Outcome::Refused(r),
+        accepted: usize::from(v.0),
+        answer: Err(r),
         edges,
         first,
         last,
     }
 }
 
-// The ends and edges of k nodes that the arrays and numbers hold.
-fn links_held(
-    k: usize,
-    count: usize,
-    first: [u16; 3],
-    last: [u16; 3],
-    from: [u16; 2048],
-    to: [u16; 2048],
-    first_node: [u16; 64],
-    last_node: [u16; 64],
-    first_block: [bool; 512],
-    last_block: [bool; 512],
-) -> LinkedRecords
-    ensures { result ≡ links_from k (record { count = count; from = from; to = to })
-        (lent_end first first_node first_block) (lent_end last last_node last_block) }
-{
-    LinkedRecords {
-        accepted: k,
-        answer: Outcome::Done,
-        edges: Edges { count, from, to },
-        first: End {
-            node: first_node,
-            all: NodeIndex(first[ALL]),
-            block: first_block,
-        },
-        last: End {
-            node: last_node,
-            all: NodeIndex(last[ALL]),
-            block: last_block,
-        },
-    }
-}
-
-// The numbers of an end of a graph. Nothing is mapped from 64 on, and of the block it is said only whether it has a node.
-fn end_numbers(e: End) -> [u16; 3]
-    ensures { end_state result ≡ end_state_of e }
-{
-    let all = e.all;
-    let block = e.block;
-    if graph::has_member(block) {
-        return [all.0, 64, 65534];
-    }
-    [all.0, 64, 65535]
-}
-
 // Whether an entry is absent or a node below n.
-fn is_below(x: NodeIndex, n: usize) -> bool
-    ensures { result ≡ if_present (λ u. ltb u n) x.0 }
+fn is_below(x: u16, n: usize) -> bool
+    ensures { result ≡ if_present (λ u. ltb u n) x }
 {
-    if x.0 == 65535 {
-        return true;
-    }
-    file::to_index(x.0) < n
+    x == 65535 || usize::from(x) < n
 }
 
 // Whether the end names only nodes below n.
-fn names_below(e: End, n: usize) -> bool
-    ensures { result ≡ all_of (if_present (λ u. ltb u n)) (named e) }
+fn names_below(e: &End, n: usize) -> bool
+    ensures { result ≡ all_of (if_present (λ u. ltb u n)) (named e.now) }
 {
-    let all = e.all;
-    if !is_below(all, n) {
-        return false;
-    }
-    let node = e.node;
-    let mut q: usize = 0;
-    while q < 64 {
-        if !is_below(NodeIndex(node[q]), n) {
-            return false;
-        }
-        q += 1;
-    }
-    true
+    is_below(e.all.0, n) && e.node.iter().all(|u| is_below(*u, n))
 }
 
 // Whether the ends name only nodes below n, and there are no more edges than a graph may have.
-fn links_fit(n: usize, edges: Edges, first: End, last: End) -> bool
-    ensures { result ≡ links_fit n edges first last }
+fn links_fit(n: usize, edges: &Edges, first: &End, last: &End) -> bool
+    ensures { result ≡ links_fit n edges.now first.now last.now }
 {
-    if 2048 < edges.count {
-        return false;
+    edges.count <= 2048 && names_below(first, n) && names_below(last, n)
+}
+
+// The edges and ends while records are taken, and room for the nodes that a record's node is joined with.
+#[derive(Drop)]
+struct Links {
+    edges: Edges,
+    first: WorkingEnd,
+    last: WorkingEnd,
+    others: Others,
+}
+
+impl Links {
+    fn new() -> Links
+        ensures { result ≡ record { edges = empty.edges; first = no_end; last = no_end; others = [] } }
+    {
+        Links {
+            edges: graph::no_edges(),
+            first: WorkingEnd::new(),
+            last: WorkingEnd::new(),
+            others: Others::new(),
+        }
     }
-    if names_below(first, n) {
-        return names_below(last, n);
+
+    // Those of a graph.
+    fn of(edges: Edges, first: End, last: End) -> Links
+        ensures same { result ≡ record { edges = edges; first = first; last = last; others = [] } }
+        ensures sized { (length first.node ≡ 64) × (length last.node ≡ 64) }
+    {
+        Links {
+            edges,
+            first: WorkingEnd::of(first),
+            last: WorkingEnd::of(last),
+            others: Others::new(),
+        }
     }
-    false
+
+    // Record i, at this end and with these qubits, as node k: 5, 6, or the ends and edges with it.
+    fn take(
+        &mut self,
+        rule: LoadingRule,
+        i: usize,
+        front: bool,
+        qubits: InvolvedQubits,
+        k: usize,
+    ) -> Result<(), Refusal>
+        requires { (self.old.edges.count ≤ 2048) × EndFits k self.old.first × EndFits k self.old.last }
+        ensures { answered k result self.new.edges self.new.first self.new.last
+            ≡ link_record (rule_of rule) i front qubits (links_from k self.old.edges self.old.first self.old.last) }
+    {
+        if 512 <= k {
+            return Err(Refusal::TooManyNodes);
+        }
+        let v = NodeIndex(k as u16);
+        join_record(
+            &mut self.first,
+            &mut self.last,
+            &mut self.others,
+            front,
+            qubits,
+            v,
+            rule,
+        );
+        if edges_pass(self.edges.count, self.others.len(), qubits) {
+            return Err(Refusal::TooManyEdges(i));
+        }
+        add_edges(&mut self.edges, front, v, &self.others);
+        Ok(())
+    }
+
+    // .. of k nodes.
+    fn into_linked(self, k: usize) -> LinkedRecords
+        ensures { result ≡ links_from k self.edges self.first self.last }
+    {
+        LinkedRecords {
+            accepted: k,
+            answer: Ok(()),
+            edges: self.edges,
+            first: self.first.into_end(),
+            last: self.last.into_end(),
+        }
+    }
 }
 
 // Record i, at this end and with these qubits, as node v, on the ends and edges of a graph with v nodes: 11 where an end names another node or there
@@ -153,51 +169,15 @@ pub fn link_node(
 ) -> LinkedRecords
     ensures { result ≡ link_node (rule_of rule) i front qubits v edges first last }
 {
-    let n = v.0 as usize;
-    if !links_fit(n, edges, first, last) {
+    let n = usize::from(v.0);
+    if !links_fit(n, &edges, &first, &last) {
         return links_kept(v, edges, first, last, Refusal::Unsound);
     }
-    if 512 <= n {
-        return links_kept(v, edges, first, last, Refusal::TooManyNodes);
+    let mut links = Links::of(edges, first, last);
+    match links.take(rule, i, front, qubits, n) {
+        Ok(()) => links.into_linked(n + 1),
+        Err(r) => links_kept(v, edges, first, last, r),
     }
-    let mut first_numbers = end_numbers(first);
-    let mut last_numbers = end_numbers(last);
-    let mut from = edges.from;
-    let mut to = edges.to;
-    let mut first_node = first.node;
-    let mut last_node = last.node;
-    let mut first_block = first.block;
-    let mut last_block = last.block;
-    let mut others = [0u16; 64];
-    let joined = join_record(
-        front,
-        qubits,
-        v,
-        &mut first_numbers,
-        &mut last_numbers,
-        &mut first_node,
-        &mut last_node,
-        &mut first_block,
-        &mut last_block,
-        &mut others,
-        rule,
-    );
-    if edges_pass(edges.count, joined, qubits) {
-        return links_kept(v, edges, first, last, Refusal::TooManyEdges(i));
-    }
-    add_edges(front, v, &others, joined, &mut from, &mut to, edges.count);
-    links_held(
-        n + 1,
-        edges.count + joined,
-        first_numbers,
-        last_numbers,
-        from,
-        to,
-        first_node,
-        last_node,
-        first_block,
-        last_block,
-    )
 }
 
 // The file's records with these numbers, one after the other, as nodes 0, 1, 2, ..: each 2, 1, 8, 3 where the file has
@@ -205,60 +185,16 @@ pub fn link_node(
 pub fn link_records(rule: LoadingRule, file: &[u8], order: &[u16]) -> LinkedRecords
     ensures { result ≡ link_records (rule_of rule) file.now no_links order.now }
 {
-    let mut count: usize = 0;
-    let mut first = [65535u16, 0, 65535];
-    let mut last = [65535u16, 0, 65535];
-    let mut from = [0u16; 2048];
-    let mut to = [0u16; 2048];
-    let mut first_node = [65535u16; 64];
-    let mut last_node = [65535u16; 64];
-    let mut first_block = [false; 512];
-    let mut last_block = [false; 512];
-    let mut others = [0u16; 64];
-    let mut k: usize = 0;
-    while k < order.len() {
-        let i = file::to_index(order[k]);
-        let parsed = file::parse_record(file::part_of(file, i));
-        let r = match parsed {
-            Parsed::Record(r) => r,
-            Parsed::Refused(c) => return links_stopped(k, record_refusal(file, i, c)),
+    let mut links = Links::new();
+    for (k, number) in order.iter().enumerate() {
+        let i = usize::from(*number);
+        let r = match file::parse_record(file::part_of(file, i)) {
+            Ok(r) => r,
+            Err(c) => return links_stopped(k, record_refusal(file, i, c)),
         };
-        if 512 <= k {
-            return links_stopped(k, Refusal::TooManyNodes);
+        if let Err(c) = links.take(rule, i, r.front, r.qubits, k) {
+            return links_stopped(k, c);
         }
-        let front = r.front;
-        let qubits = r.qubits;
-        let v = NodeIndex(k as u16);
-        let joined = join_record(
-            front,
-            qubits,
-            v,
-            &mut first,
-            &mut last,
-            &mut first_node,
-            &mut last_node,
-            &mut first_block,
-            &mut last_block,
-            &mut others,
-            rule,
-        );
-        if edges_pass(count, joined, qubits) {
-            return links_stopped(k, Refusal::TooManyEdges(i));
-        }
-        add_edges(front, v, &others, joined, &mut from, &mut to, count);
-        count += joined;
-        k += 1;
     }
-    links_held(
-        k,
-        count,
-        first,
-        last,
-        from,
-        to,
-        first_node,
-        last_node,
-        first_block,
-        last_block,
-    )
+    links.into_linked(order.len())
 }

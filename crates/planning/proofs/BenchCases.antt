@@ -13,13 +13,11 @@ use Rattle.graph.specs.Soundness.{ascends, sound}
 use Rattle.queries.specs.Conversion.{place_in, sort_by_place, circuit_of}
 use Rattle.queries.specs.Reach.{reached_by, blocking}
 use Rattle.queries.specs.Queries.{remove, layer_after, new_front_layer}
-use Rattle.queries.specs.declared.Query.TheVariants.{Entries}
-use Rattle.accessors.specs.declared.Got.TheVariants.{Refused as NotGot}
-use Rattle.accessors.specs.declared.Operation.TheVariants.{Node as Named, None}
 use Rattle.accessors.specs.Accessors.{get, last_parallel_block, commuting_operations, first_involving_qubit, last_involving_qubit, node_of_key}
 use Rattle.accessors.specs.Accessors.{first_involving_classical, last_involving_classical}
 use Rattle.registers.specs.Registers.{put, define, set_keys, registers_after}
-use Rattle.links.specs.Links.{qubits_from, link_qubits, link_set, mapped, link_all, FarAll}
+use Rattle.links.specs.Links.{qubits_from, link_qubits, link_set, mapped, link_all}
+use Rattle.links.specs.declared.LoadingRule.TheVariants.{FarAll}
 use Rattle.insertion.specs.Insertion.{grown}
 use Rattle.insertion.specs.Limits.{insert_as, insert_by}
 use Rattle.insertion.specs.Load.{insert_records, load_by}
@@ -29,6 +27,7 @@ use Rattle.walk.specs.Blocks.{marks, start, joined, followers, blocks_from, bloc
 use Rattle.guarantee.specs.Guarantee.{accepted_from}
 use Rattle.planning.specs.Chain.{chain_from, chain_of}
 use Rattle.planning.specs.BenchTable.{NameSet, case2, case4, list5, case5, case10, at_both_ends, one_end, BenchTable}
+use Rattle.std.specs.Prelude.{Ok, Err, Some, None}
 
 -- a declaration that says `unfolding rules` computes with every rule
 unfoldable pub rules : ℕ
@@ -69,15 +68,15 @@ unfolding rules differs_from
 far_of_new_both_ends = (refl, refl, refl, refl)
 
 -- case 4 through the accessors: "first[5] = 0, last[5] = 1"; qubit 64 has none, and node 2 is absent
-accessors_of_4 : (first_involving_qubit case4 5 ≡ Named (node 0)) × (last_involving_qubit case4 5 ≡ Named (node 1)) × (last_involving_qubit case4 64 ≡ None)
-    × (last_parallel_block case4 (9 ∷ []) ≡ record { answer = Entries 1; buffer = 1 ∷ [] }) × (get case4 2 ≡ NotGot Absent)
+accessors_of_4 : (first_involving_qubit case4 5 ≡ Ok (Some (node 0))) × (last_involving_qubit case4 5 ≡ Ok (Some (node 1))) × (last_involving_qubit case4 64 ≡ (Ok None))
+    × (last_parallel_block case4 (9 ∷ []) ≡ record { answer = Ok 1; buffer = 1 ∷ [] }) × (get case4 2 ≡ Err Absent)
 unfolding rules first_involving_qubit last_involving_qubit last_parallel_block get
 accessors_of_4 = (refl, refl, refl, refl, refl)
 
 -- case 10 through the accessors: "last is (2,0)→2 alone", "first(1,0) = 3"; the definitions commute
-accessors_of_10 : (last_involving_classical (case10 []) (record { name = 2; index = 0 }) ≡ Named (node 2)) × (last_involving_classical (case10 []) (record { name = 1; index = 0 }) ≡ None)
-    × (first_involving_classical (case10 (NameSet 1 0 ∷ [])) (record { name = 1; index = 0 }) ≡ Named (node 3))
-    × (commuting_operations (case10 []) (9 ∷ 9 ∷ 9 ∷ []) ≡ record { answer = Entries 2; buffer = 0 ∷ 1 ∷ 9 ∷ [] })
+accessors_of_10 : (last_involving_classical (case10 []) (record { name = 2; index = 0 }) ≡ Ok (Some (node 2))) × (last_involving_classical (case10 []) (record { name = 1; index = 0 }) ≡ (Ok None))
+    × (first_involving_classical (case10 (NameSet 1 0 ∷ [])) (record { name = 1; index = 0 }) ≡ Ok (Some (node 3)))
+    × (commuting_operations (case10 []) (9 ∷ 9 ∷ 9 ∷ []) ≡ record { answer = Ok 2; buffer = 0 ∷ 1 ∷ 9 ∷ [] })
 unfolding rules node_of_key first_involving_classical last_involving_classical commuting_operations
 accessors_of_10 = (refl, refl, refl, refl)
 

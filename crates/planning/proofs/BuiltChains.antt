@@ -9,7 +9,7 @@ use lib.ListN.{length, get_or, get_or-map}
 use Rattle.graph.specs.declared.CircuitDag.{CircuitDag}
 use Rattle.graph.specs.Dag.{absent, size, empty}
 use Rattle.graph.specs.Soundness.{sound}
-use Rattle.links.specs.Links.{LoadingRule}
+use Rattle.links.specs.declared.LoadingRule.{LoadingRule}
 use Rattle.insertion.specs.Calls.{Call, bytes_of, built, all_by}
 use Rattle.insertion.proofs.BuiltLaws.{sound-built}
 use Rattle.walk.specs.Blocks.{blocks}

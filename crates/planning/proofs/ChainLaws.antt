@@ -18,7 +18,6 @@ use Rattle.file.proofs.BoolLaws.{bool_cases, clash_bool, not-true, bool_ext, and
 use Rattle.graph.proofs.ListLaws.{length-up_to, up_to-at}
 use Rattle.queries.proofs.BufferLaws.{keep_yes, keep_no}
 use Rattle.insertion.proofs.ConversionLaws.{keep-none}
-use Rattle.walk.specs.declared.BlockCount.TheVariants.{Blocks}
 use Rattle.walk.specs.Blocks.{Walked, blocks, number_from, block_numbers, block_of_step}
 use Rattle.walk.proofs.Bounds.{any, any_intro, any_elim, any_none, and-any, split_lt}
 use Rattle.walk.proofs.Heights.{block}
@@ -29,6 +28,7 @@ use Rattle.walk.proofs.NumberLaws.{number_of, Numbered, in_block as in_its_block
 use Rattle.walk.proofs.WholeLaws.{walk_done}
 use Rattle.planning.specs.Chain.{in_block, chain_from, chain_down, chain_of}
 use Rattle.planning.specs.Chains.{Consecutive, SoundChain}
+use Rattle.std.specs.Prelude.{Ok}
 
 -- ---- the smallest that passes
 
@@ -176,7 +176,7 @@ module _ (g : CircuitDag) (s : sound g ≡ true) where
 
   pub sound-chain : SoundChain g
   sound-chain = record {
-    count = λ buffer h. ap (λ (x : Walked). x.answer) (walk_done g s buffer h) ∙ ap Blocks (sym chain_long);
+    count = λ buffer h. ap (λ (x : Walked). x.answer) (walk_done g s buffer h) ∙ ap Ok (sym chain_long);
     falls = λ i h.
         let r = whole_in (chain-whole (length (blocks g)) refl) i h in
         omega (arith, chain_long, r.1, number-at r.0 (get_or (chain_of g) i absent) (omega (arith, r.1)) r.2);

@@ -13,7 +13,6 @@ use Rattle.file.specs.Lists.{onto, put_at}
 use Rattle.file.specs.declared.Refusal.{Refusal}
 use Rattle.file.specs.declared.Refusal.TheVariants.{Unsound, ShortBuffer}
 use Rattle.graph.specs.declared.CircuitDag.{CircuitDag}
-use Rattle.queries.specs.declared.Query.TheVariants.{Entries, Refused}
 use Rattle.graph.specs.Dag.{absent, size}
 use Rattle.graph.specs.Soundness.{sound}
 use Rattle.queries.specs.Queries.{Lent}
@@ -21,19 +20,19 @@ use Rattle.file.proofs.BoolLaws.{bool_cases, clash_bool, and_l, and_r, and_intro
 use Rattle.file.proofs.PutLaws.{put-none, put_one, put-put, length-put}
 use Rattle.queries.proofs.BufferLaws.{answers_short, answers-whole}
 use Rattle.graph.proofs.ListLaws.{any_default}
-use Rattle.walk.specs.declared.BlockCount.{BlockCount}
-use Rattle.walk.specs.declared.BlockCount.TheVariants.{Blocks, Refused as NotWalked}
 use Rattle.walk.specs.Blocks.{Walked, blocks, block_numbers, whole_walk}
-use Rattle.walk.specs.Numbering.{at, Joined}
+use Rattle.walk.specs.Numbering.{at}
+use Rattle.queries.specs.Marks.{EndsBelow}
 use Rattle.walk.proofs.HeightSteps.{block_pred, chain_from as least_from}
 use Rattle.walk.proofs.BlockSteps.{edge-at, at_edge}
 use Rattle.walk.proofs.BlockLaws.{W, rank, upward, first_start, block_told, blocks_few}
 use Rattle.walk.proofs.NumberLaws.{some_first, block_low}
 use Rattle.walk.proofs.WholeLaws.{walk_done}
-use Rattle.walk.proofs.WholeLaws.{walk_unsound}
+use Rattle.walk.proofs.WholeLaws.{walk_refused as walk_not_sound}
 use Rattle.planning.specs.Chain.{chain_of, chain}
 use Rattle.planning.specs.Descents.{InBlock, Leads, Before, Smallest, Descent, bottom, below, Descended}
 use Rattle.planning.proofs.ChainLaws.{E, F, blk, numbers_long, in_block_lem, least-is, top, top_in, chain-is, chain_long}
+use Rattle.std.specs.Prelude.{Result, Ok, Err}
 
 -- ---- the smallest node of a block
 
@@ -69,12 +68,12 @@ module _ (number : List ℕ) (n t : ℕ) where
 
 module _ (number from to : List ℕ) (m v t : ℕ) where
   pub record Searching (best j : ℕ) : Type 0 where
-    pub joined : Joined from to m
+    pub joined : EndsBelow from to m
     pub low : j ≤ m
     pub least : (i : ℕ) → i < j → Leads number from to m v t i → best ≤ at from i
     pub found : (best ≡ 65535) ⊎ Before number from to m v t best
 
-  pub search_begin : Joined from to m → Searching 65535 0
+  pub search_begin : EndsBelow from to m → Searching 65535 0
   search_begin J = record { joined = J; low = omega arith; least = λ i l h. absurd (omega arith); found = inl refl }
 
   pub search_more : {best j : ℕ} → Searching best j → j < m → (f new : ℕ) → f ≡ at from j
@@ -106,7 +105,7 @@ module _ (number from to : List ℕ) (m v t : ℕ) where
   search_done {best} {j} I h = record {
     least = lowest;
     passes = λ u p. ⊎_elim
-        (λ (e : best ≡ 65535). absurd (omega (arith, lowest u p, p.2, I.joined.from_low p.0 p.1.0)))
+        (λ (e : best ≡ 65535). absurd (omega (arith, lowest u p, p.2, I.joined.near_below p.0 p.1.0)))
         (λ (b : Before number from to m v t best). b)
         I.found;
   }
@@ -197,7 +196,7 @@ module _ (g : CircuitDag) (s : sound g ≡ true) (number : List ℕ) (same : (u 
 
   -- the whole outcome
   pub chain-done : (k t r : ℕ) (old new : List ℕ) → k ≡ length (blocks g) → k ≤ length old → (k ≡ 0 → ⊥) → t ≡ k - 1 → Smallest (InBlock number n t) r
-      → Descended number from to m r t 0 old new → ◌≡◌ {A = Lent} (record { answer = Entries k; buffer = new }) (chain g old)
+      → Descended number from to m r t 0 old new → ◌≡◌ {A = Lent} (record { answer = Ok k; buffer = new }) (chain g old)
   unfolding chain
   chain-done k t r old new e room some z S D =
       let l : t < length (blocks g) = omega arith in
@@ -219,15 +218,15 @@ module _ (g : CircuitDag) where
   long : length old ≡ 512
   long = length-replicate {A = ℕ} 512 65535
 
-  walked : (s : sound g ≡ true) → whole_walk g old ≡ record { answer = Blocks (length (blocks g)); buffer = onto (block_numbers g) old }
+  walked : (s : sound g ≡ true) → whole_walk g old ≡ record { answer = Ok (length (blocks g)); buffer = onto (block_numbers g) old }
   walked s = walk_done g s old (omega (arith, long, (W g s).cap))
 
-  pub walk_refused : (a : BlockCount) (r : Refusal) (new buffer : List ℕ) → a ≡ NotWalked r → ◌≡◌ {A = Walked} (record { answer = a; buffer = new }) (whole_walk g old)
-      → ◌≡◌ {A = Lent} (record { answer = Refused r; buffer = buffer }) (chain g buffer)
+  pub walk_refused : (a : Result ℕ Refusal) (r : Refusal) (new buffer : List ℕ) → a ≡ Err r → ◌≡◌ {A = Walked} (record { answer = a; buffer = new }) (whole_walk g old)
+      → ◌≡◌ {A = Lent} (record { answer = Err r; buffer = buffer }) (chain g buffer)
   unfolding chain
   walk_refused a r new buffer e h = ⊎_elim
-      (λ (s : sound g ≡ true). let w : NotWalked r ≡ Blocks (length (blocks g)) = sym e ∙ ap (λ (x : Walked). x.answer) (h ∙ walked s) in let z : ◌≡◌ {A = ℕ} 0 1 = cc in absurd (omega arith))
-      (λ (s : sound g ≡ false). let w : NotWalked r ≡ NotWalked Unsound = sym e ∙ ap (λ (x : Walked). x.answer) (h ∙ sym (walk_unsound g old s)) in let z : r ≡ Unsound = cc in rw (s, z) refl)
+      (λ (s : sound g ≡ true). let w : Err r ≡ Ok (length (blocks g)) = sym e ∙ ap (λ (x : Walked). x.answer) (h ∙ walked s) in let z : ◌≡◌ {A = ℕ} 0 1 = cc in absurd (omega arith))
+      (λ (s : sound g ≡ false). let w : Err r ≡ Err Unsound = sym e ∙ ap (λ (x : Walked). x.answer) (h ∙ sym (walk_not_sound g old Unsound (rw s refl))) in let z : r ≡ Unsound = cc in rw (s, z) refl)
       (bool_cases (sound g))
 
   pub record Told (k : ℕ) (new : List ℕ) : Type 0 where
@@ -240,19 +239,19 @@ module _ (g : CircuitDag) where
       let k : u < length (block_numbers g) = omega (arith, numbers_long g s) in
       ap (λ (x : List ℕ). at x u) e ∙ get_or-append (block_numbers g) (drop (length (block_numbers g)) old) 0 u k ∙ any_default (block_numbers g) u 0 absent k
 
-  pub walk_told : (a : BlockCount) (k : ℕ) (new : List ℕ) → a ≡ Blocks k → ◌≡◌ {A = Walked} (record { answer = a; buffer = new }) (whole_walk g old) → Told k new
+  pub walk_told : (a : Result ℕ Refusal) (k : ℕ) (new : List ℕ) → a ≡ Ok k → ◌≡◌ {A = Walked} (record { answer = a; buffer = new }) (whole_walk g old) → Told k new
   walk_told a k new e h = ⊎_elim
       (λ (s : sound g ≡ true).
-      let w : Blocks k ≡ Blocks (length (blocks g)) = sym e ∙ ap (λ (x : Walked). x.answer) (h ∙ walked s) in
+      let w : Ok k ≡ Ok (length (blocks g)) = sym e ∙ ap (λ (x : Walked). x.answer) (h ∙ walked s) in
       record { sound = s; count = cc; same = entries new s (ap (λ (x : Walked). x.buffer) (h ∙ walked s)) })
-      (λ (s : sound g ≡ false). let w : Blocks k ≡ NotWalked Unsound = sym e ∙ ap (λ (x : Walked). x.answer) (h ∙ sym (walk_unsound g old s)) in let z : ◌≡◌ {A = ℕ} 0 1 = cc in absurd (omega arith))
+      (λ (s : sound g ≡ false). let w : Ok k ≡ Err Unsound = sym e ∙ ap (λ (x : Walked). x.answer) (h ∙ sym (walk_not_sound g old Unsound (rw s refl))) in let z : ◌≡◌ {A = ℕ} 0 1 = cc in absurd (omega arith))
       (bool_cases (sound g))
 
 module _ (g : CircuitDag) (s : sound g ≡ true) (old : List ℕ) (k : ℕ) (e : k ≡ length (blocks g)) where
-  pub chain_short : length old < k → ◌≡◌ {A = Lent} (record { answer = Refused ShortBuffer; buffer = old }) (chain g old)
+  pub chain_short : length old < k → ◌≡◌ {A = Lent} (record { answer = Err ShortBuffer; buffer = old }) (chain g old)
   unfolding chain
   chain_short h = rw s (answers_short (chain_of g) old k (e ∙ sym (chain_long g s)) h)
 
-  pub chain-none : k ≡ 0 → ◌≡◌ {A = Lent} (record { answer = Entries 0; buffer = old }) (chain g old)
+  pub chain-none : k ≡ 0 → ◌≡◌ {A = Lent} (record { answer = Ok 0; buffer = old }) (chain g old)
   unfolding chain
   chain-none z = rw s (answers-whole (chain_of g) old old 0 (sym z ∙ e ∙ sym (chain_long g s)) (omega arith) (put_nothing (chain_of g) old (sym z ∙ e ∙ sym (chain_long g s))))

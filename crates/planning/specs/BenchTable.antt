@@ -1,16 +1,14 @@
 -- "Bench table (proved)": "The ten cases above are one theorem about the rules." Assumes nothing.
-use Rattle.std.specs.Prelude.{◌≡◌, List, [], ◌∷◌, ◌++◌, map, ℕ, ◌+◌, ◌^◌, negsuc, replicate}
+use Rattle.std.specs.Prelude.{◌≡◌, List, [], ◌∷◌, ◌++◌, map, ℕ, ◌+◌, ◌^◌, negsuc, replicate, Ok, None}
 use Rattle.file.specs.declared.Refusal.TheVariants.{EmptySet}
 use Rattle.graph.specs.declared.CircuitDag.{CircuitDag}
-use Rattle.queries.specs.declared.Query.TheVariants.{Entries}
 use Rattle.graph.specs.Dag.{Node, absent, edge, entry, nodes_of, edges_of, entries_of, at_qubit}
 use Rattle.queries.specs.Queries.{new_front_layer}
 use Rattle.queries.specs.Conversion.{circuit_of}
 use Rattle.insertion.specs.Limits.{refused, insert_of}
 use Rattle.insertion.specs.Load.{not_loaded, load}
-use Rattle.links.specs.Links.{FarAll}
+use Rattle.links.specs.declared.LoadingRule.TheVariants.{FarAll}
 use Rattle.insertion.specs.Calls.{final_by, final}
-use Rattle.walk.specs.declared.BlockCount.TheVariants.{Blocks}
 use Rattle.walk.specs.Blocks.{whole_walk, blocks}
 use Rattle.guarantee.specs.Guarantee.{Bytes, Condition}
 
@@ -86,7 +84,7 @@ one_end = BAll ∷ BAll ∷ B (3 ∷ []) ∷ []
 -- the table, a field a line
 pub record BenchTable : Type 0 where
   -- "1. Empty: walk counts 0."
-  pub case_1 : (whole_walk (final []) []).answer ≡ Blocks 0
+  pub case_1 : (whole_walk (final []) []).answer ≡ Ok 0
   -- "2. B{0} B{1} B{0,1}: edges 0-2, 1-2; blocks {0,1} {2}."
   pub case_2 : (edges_of case2 ≡ edge 0 2 ∷ edge 1 2 ∷ []) × (blocks case2 ≡ (0 ∷ 1 ∷ []) ∷ (2 ∷ []) ∷ [])
   -- "3. B All: qubit 0 to node 0 in both maps."
@@ -104,9 +102,9 @@ pub record BenchTable : Type 0 where
   -- "7. F{0} F{0}: places -1, -2; edge 1-0; circuit 1, 0."
   pub case_7 : (map (λ (n : Node). n.place) (nodes_of case7) ≡ negsuc 0 ∷ negsuc 1 ∷ []) × (edges_of case7 ≡ edge 1 0 ∷ []) × (circuit_of case7 ≡ 1 ∷ 0 ∷ [])
   -- "8. On 2, layer 0 1, nothing executed, node 0: layer stays 0 1."
-  pub case_8 : new_front_layer case2 [] (0 ∷ 1 ∷ []) 0 (9 ∷ 9 ∷ []) ≡ record { answer = Entries 2; buffer = 0 ∷ 1 ∷ [] }
+  pub case_8 : new_front_layer case2 [] (0 ∷ 1 ∷ []) 0 (9 ∷ 9 ∷ []) ≡ record { answer = Ok 2; buffer = 0 ∷ 1 ∷ [] }
   -- "9. On 2, layer 0 1, executed 0, node 1: layer 0 2."
-  pub case_9 : new_front_layer case2 (0 ∷ []) (0 ∷ 1 ∷ []) 1 (9 ∷ 9 ∷ []) ≡ record { answer = Entries 2; buffer = 0 ∷ 2 ∷ [] }
+  pub case_9 : new_front_layer case2 (0 ∷ []) (0 ∷ 1 ∷ []) 1 (9 ∷ 9 ∷ []) ≡ record { answer = Ok 2; buffer = 0 ∷ 2 ∷ [] }
   -- "10. Bit name 1 length 2; Bit name 2 length 1; B None/All name 2: last is (2,0)→2 alone, first has 3 keys. Then B None/Set (1,0): first(1,0) = 3."
   pub case_10 : (entries_of (case10 []).last_registers ≡ entry 2 0 2 ∷ [])
       × (entries_of (case10 []).first_registers ≡ entry 1 0 0 ∷ entry 1 1 0 ∷ entry 2 0 1 ∷ [])

@@ -1,12 +1,11 @@
 -- What every chain is: on a sound graph it has a node of each block, joined to the next by an edge; on a built one each clashes with the
 -- next. Assumes nothing.
-use Rattle.std.specs.Prelude.{◌≡◌, Bool, true, List, [], ◌∷◌, map, ℕ, ◌+◌, ◌≤◌, ◌<◌, length, get_or}
+use Rattle.std.specs.Prelude.{◌≡◌, Bool, true, List, [], ◌∷◌, map, ℕ, ◌+◌, ◌≤◌, ◌<◌, length, get_or, Ok}
 use Rattle.graph.specs.declared.CircuitDag.{CircuitDag}
 use Rattle.graph.specs.Dag.{absent, size, has_edge}
 use Rattle.graph.specs.Soundness.{sound}
-use Rattle.links.specs.Links.{LoadingRule}
+use Rattle.links.specs.declared.LoadingRule.{LoadingRule}
 use Rattle.insertion.specs.Calls.{Call, bytes_of, built, all_by}
-use Rattle.walk.specs.declared.BlockCount.TheVariants.{Blocks}
 use Rattle.walk.specs.Blocks.{block_numbers, whole_walk}
 use Rattle.guarantee.specs.Guarantee.{Accepted, accepted, takes_qubits, clash, Bytes}
 use Rattle.planning.specs.Chain.{chain_of}
@@ -20,7 +19,7 @@ Consecutive p (v ∷ u ∷ l) = (p v u ≡ true) × Consecutive p (u ∷ l)
 -- of a sound graph, handed in or built
 pub record SoundChain (g : CircuitDag) : Type 0 where
   -- The chain has exactly as many nodes as the walk counted blocks.
-  pub count : (buffer : List ℕ) → size g ≤ length buffer → (whole_walk g buffer).answer ≡ Blocks (length (chain_of g))
+  pub count : (buffer : List ℕ) → size g ≤ length buffer → (whole_walk g buffer).answer ≡ Ok (length (chain_of g))
   -- Its entries are in the last block, the one before, and so on to block 0, by the walk's numbers.
   pub falls : (i : ℕ) → i < length (chain_of g) → get_or (block_numbers g) (get_or (chain_of g) i absent) absent + (i + 1) ≡ length (chain_of g)
   -- Consecutive nodes are joined by an edge, from the lower block to the higher.

@@ -8,17 +8,18 @@ use native.Mathlib.Omega.{arith}
 use native.Mathlib.Numerals.{add-one}
 use lib.Dec.{eqb}
 use lib.ListN.{length, get_or, take, drop, set, replicate, length-append, length-drop}
-use lib.Seq.{take-length, length-take-le, slice}
+use borrow.Rule.Slice.PartMut.{put_mid}
+use lib.Seq.{take-length, length-take-le, drop-drop, slice}
 use borrow.Author.Tests.{lt-ltb, le-ltb, ne_eqb, eq-eqb}
 use Rattle.file.specs.Lists.{keep, cons_if, count_from, up_to, member, marked_from, members, is_empty, put_at}
 use Rattle.file.specs.declared.Refusal.TheVariants.{ShortBuffer}
-use Rattle.queries.specs.declared.Query.TheVariants.{Entries}
 use Rattle.queries.specs.Queries.{Lent, refuses, answers, remove}
 use Rattle.queries.specs.Marks.{kept, without, layer_by, FirstAt}
 use Rattle.file.proofs.BoolLaws.{bool_cases, clash_bool, split_lt}
 use Rattle.file.proofs.PutLaws.{put-none, put-put, length-put, put_one, put-onto}
 use Rattle.graph.proofs.ListLaws.{at-any, at_none}
 use Rattle.graph.proofs.CheckLaws.{unmarked}
+use Rattle.std.specs.Prelude.{Ok}
 
 -- ---- the entries that pass
 
@@ -100,11 +101,11 @@ members_kept mark skip l s = sym (ap (λ (n : ℕ). keep passes (up_to n)) l) �
 pub answers_short : (l b : List ℕ) (k : ℕ) → k ≡ length l → length b < k → refuses ShortBuffer b ≡ answers l b
 answers_short l b k e h = rw (lt-ltb (length b) (length l) (omega arith)) refl
 
-pub answers-whole : (l b b' : List ℕ) (k : ℕ) → k ≡ length l → k ≤ length b → b' ≡ put_at 0 l b → ◌≡◌ {A = Lent} (record { answer = Entries k; buffer = b' }) (answers l b)
-answers-whole l b b' k e h s = rw (le-ltb (length b) (length l) (omega arith)) (λ t. record { answer = Entries (e t); buffer = (s ∙ put-onto l b) t })
+pub answers-whole : (l b b' : List ℕ) (k : ℕ) → k ≡ length l → k ≤ length b → b' ≡ put_at 0 l b → ◌≡◌ {A = Lent} (record { answer = Ok k; buffer = b' }) (answers l b)
+answers-whole l b b' k e h s = rw (le-ltb (length b) (length l) (omega arith)) (λ t. record { answer = Ok (e t); buffer = (s ∙ put-onto l b) t })
 
 -- a list copied whole
-pub answers_copied : (l b b' : List ℕ) → length l ≤ length b → b' ≡ put_at 0 (slice 0 (length l) l) b → ◌≡◌ {A = Lent} (record { answer = Entries (length l); buffer = b' }) (answers l b)
+pub answers_copied : (l b b' : List ℕ) → length l ≤ length b → b' ≡ put_at 0 (slice 0 (length l) l) b → ◌≡◌ {A = Lent} (record { answer = Ok (length l); buffer = b' }) (answers l b)
 answers_copied l b b' h s = answers-whole l b b' (length l) refl h (s ∙ ap (λ (k : List ℕ). put_at 0 k b) (take-length l))
 
 -- ---- the loops
@@ -217,9 +218,22 @@ next-written i layer freed b b1 b2 b3 h r e1 e2 e3 =
 pub next_short : (i k : ℕ) (layer freed b : List ℕ) → i < length layer → k ≡ length freed → length b < (length layer - 1) + k → refuses ShortBuffer b ≡ answers (without i layer ++ freed) b
 next_short i k layer freed b h e s = answers_short (without i layer ++ freed) b ((length layer - 1) + k) (omega (arith, next-length i layer freed h)) s
 
+-- the layer's two parts as they are copied
+pub copied_head : (i : ℕ) (layer b x : List ℕ) → i < length layer → x ≡ take i layer → x ++ drop i b ≡ put_at 0 (slice 0 i layer) b
+copied_head i layer b x h e = let n : 0 + length (take i layer) ≡ i = omega (arith, length-take-le i layer (omega arith)) in rw (e, n) refl
+
+pub copied_tail : (i : ℕ) (layer b x : List ℕ) → i < length layer → x ≡ take (length layer - (i + 1)) (drop (i + 1) layer)
+    → put_mid i (length layer - 1 - i) b x ≡ put_at i (slice (i + 1) (length layer) layer) b
+copied_tail i layer b x h e =
+    let q = drop (i + 1) layer in
+    let s : slice (i + 1) (length layer) layer ≡ q = ap (λ (l : List ℕ). drop (i + 1) l) (take-length layer) in
+    let t : take (length layer - (i + 1)) q ≡ q = ap (λ (n : ℕ). take n q) (sym (length-drop (i + 1) layer)) ∙ take-length q in
+    let n : length layer - 1 - i ≡ length q = omega (arith, length-drop (i + 1) layer) in
+    rw (e, t, s, n) (ap (λ (l : List ℕ). take i b ++ (q ++ l)) (drop-drop (length q) i b))
+
 pub next-whole : (i k : ℕ) (layer freed b b1 b2 b3 : List ℕ) → i < length layer → k ≡ length freed → (length layer - 1) + k ≤ length b
     → b1 ≡ put_at 0 (slice 0 i layer) b → b2 ≡ put_at i (slice (i + 1) (length layer) layer) b1 → b3 ≡ put_at (length layer - 1) freed b2
-    → ◌≡◌ {A = Lent} (record { answer = Entries ((length layer - 1) + k); buffer = b3 }) (answers (without i layer ++ freed) b)
+    → ◌≡◌ {A = Lent} (record { answer = Ok ((length layer - 1) + k); buffer = b3 }) (answers (without i layer ++ freed) b)
 next-whole i k layer freed b b1 b2 b3 h e s e1 e2 e3 = answers-whole (without i layer ++ freed) b b3 ((length layer - 1) + k) (omega (arith, next-length i layer freed h)) s
     (next-written i layer freed b b1 b2 b3 h (omega arith) e1 e2 e3)
 

@@ -9,11 +9,14 @@ use native.Mathlib.Numerals.{add-one}
 use native.Mathlib.Decide.{dec_lt, ℕ_discrete}
 use lib.Dec.{ltb, leb, eqb}
 use lib.ListN.{length, get_or, take, set, replicate, length-set}
-use lib.Seq.{take-suc, take-length, get_or-set_same, get_or-set_other}
-use borrow.Author.Tests.{ltb-true, leb-true, le-leb, eqb-true, eq-eqb, ne_eqb, not-true as not-flip}
+use Rattle.std.specs.List.{AllWithin}
+use Rattle.std.specs.List.Sorted.{IsPartitionedBy}
+use Rattle.graph.proofs.ListLaws.{any_default}
+use lib.Seq.{length-take-le, get_or-take, take-suc, take-length, get_or-set_same, get_or-set_other}
+use borrow.Author.Tests.{ltb-true, leb-true, leb-false, le-leb, eqb-true, eq-eqb, ne_eqb, not-true as not-flip}
 use Rattle.file.specs.Lists.{any_of, member}
 use Rattle.graph.proofs.CheckLaws.{unmarked as replicate-false}
-use Rattle.queries.specs.Marks.{no_node, every_node, unmarked, Listed, EndsBelow, Ordered, LeadsAbove, Neighbours, Passes, Spread, Swept, Closed}
+use Rattle.queries.specs.Marks.{no_node, every_node, unmarked, Listed, EndsBelow, Ordered, LeadsAbove, Neighbours, Passes, Spread, Carried, in_turn, Swept, Closed}
 use Rattle.file.proofs.BoolLaws.{bool_cases, clash_bool, and_l, and_r, and_intro, or_cases, or_l, or_r, or_inl, or_inr, flip-not, eqb_same, split_lt}
 use Rattle.graph.proofs.ListLaws.{any_here, any-later, any_append}
 
@@ -271,6 +274,24 @@ module _ (near far : List ℕ) (m : ℕ) where
     pub sweeps_all : (mark : List Bool) (moved : Bool) → Sweeping mark moved 0 m → Swept near far m mark₀ mark moved
     sweeps_all mark moved S = record { long = S.long; spread = S.spread; quiet = λ q j k. S.quiet q j (omega arith) k; fewer = S.fewer }
 
+    -- the same, over the arcs that come first in a pass up or down
+    pub sweeps_begin : EndsBelow near far m → length mark₀ ≡ 512 → (up : Bool) → Sweeping mark₀ false (cond up 0 (m - 0)) (cond up 0 m)
+    sweeps_begin E l true = sweeps_none E l 0 (omega arith)
+    sweeps_begin E l false = let z : m - 0 ≡ m = omega arith in rw z (sweeps_none E l m (omega arith))
+
+    pub sweeps_turn : (mark : List Bool) (moved up : Bool) (i : ℕ) → Sweeping mark moved (cond up 0 (m - i)) (cond up i m) → i < m → (j : ℕ) → j ≡ in_turn i m up
+        → (new : List Bool) (x : Bool) → Carried near far j mark new x → Sweeping new (moved || x) (cond up 0 (m - (i + 1))) (cond up (i + 1) m)
+    sweeps_turn mark moved true i S h j e new x C =
+        rw (C.mark, C.new_mark) (sweeps_one mark moved 0 i S j 0 (i + 1) (omega arith) (omega arith) (omega arith)
+        (λ n a b. ⊎_elim (λ z. inl (omega (arith, z, e))) (λ z. inr (omega arith, z)) (split_lt n i b)) _ _ refl refl)
+    sweeps_turn mark moved false i S h j e new x C =
+        rw (C.mark, C.new_mark) (sweeps_one mark moved (m - i) m S j (m - (i + 1)) m (omega arith) (omega arith) (omega arith)
+        (λ n a b. elim (ℕ_discrete n j) [ yes z ↦ inl z | no z ↦ inr (omega (arith, z), b) ]) _ _ refl refl)
+
+    pub sweeps_end : (mark : List Bool) (moved up : Bool) (i : ℕ) → Sweeping mark moved (cond up 0 (m - i)) (cond up i m) → m ≤ i → i ≤ m → Swept near far m mark₀ mark moved
+    sweeps_end mark moved true i S h k = let z : i ≡ m = omega arith in sweeps_all mark moved (rw z at S)
+    sweeps_end mark moved false i S h k = let z : m - i ≡ 0 = omega arith in sweeps_all mark moved (rw z at S)
+
     -- passes until nothing moves
     pub record Spreading (mark : List Bool) (moved : Bool) : Type 0 where
       pub ends : EndsBelow near far m
@@ -408,3 +429,20 @@ settled_above near far m k v mark h O A C = record {
     low = C.spread.only (λ u. leb u v)
         (λ i l t. le-leb (get_or near i 0) v (omega (arith, O.rises i (omega (arith, A.within)), leb-true (get_or far i 0) v t)))
         (λ u t. le-leb u v (omega (arith, eqb-true u v (sym (only_marked v u h) ∙ t))))
+
+-- the arcs of an ordered list that lead at most to v come first
+pub parted : (far : List ℕ) (m v : ℕ) → ((i j : ℕ) → i ≤ j → j < m → get_or far i 0 ≤ get_or far j 0) → m ≤ length far → IsPartitionedBy (λ (x : ℕ). leb x v) (take m far)
+parted far m v ascends long i j d h k t =
+    let n : length (take m far) ≡ m = length-take-le m far long in
+    let at : (n : ℕ) → n < m → get_or (take m far) n d ≡ get_or far n 0 = λ n l. get_or-take m far n d l ∙ any_default far n d 0 (omega arith) in
+    let below : get_or far i 0 ≤ get_or far j 0 = ascends i j h (omega arith) in
+    rw (at i (omega arith)) (le-leb _ _ (omega (arith, below, leb-true _ _ (rw (at j (omega arith)) at t))))
+
+pub leads_by : (far : List ℕ) (m v r : ℕ) → m ≤ length far → r ≤ length (take m far)
+    → AllWithin (λ (x : ℕ). leb x v ≡ false) (take m far) r (length (take m far)) → LeadsAbove far m v r
+leads_by far m v r long low above =
+    let n : length (take m far) ≡ m = length-take-le m far long in
+    record {
+      within = omega arith;
+      above = λ i a b. leb-false _ _ (rw (get_or-take m far i 0 b) at (above i 0 a (omega arith)));
+    }

@@ -5,17 +5,19 @@ use mathlib.Core.List.{List, [], ◌∷◌, ◌++◌}
 use Prim.Native.Nat.{ℕ, ◌≤◌, ◌<◌}
 use native.Mathlib.Omega.{arith}
 use lib.ListN.{length, set}
-use borrow.Author.Tests.{lt-ltb, le-ltb}
+use borrow.Author.Tests.{lt-ltb, le-ltb, ltb-true}
 use Rattle.file.specs.Lists.{keep, member, is_empty}
 use Rattle.file.specs.declared.Refusal.TheVariants.{Absent, NotInLayer, Unsound}
 use Rattle.graph.specs.declared.CircuitDag.{CircuitDag}
 use Rattle.graph.specs.Dag.{size}
-use Rattle.graph.specs.Soundness.{sound}
+use Rattle.graph.specs.Soundness.{sound, check_sound}
 use Rattle.queries.specs.Reach.{blocking, BlockingList, predecessors_of, successors_of}
-use Rattle.queries.specs.Queries.{Lent, refuses, answers, on_node, execution_blocked, blocking_predecessors, successors, remove, freed, layer_after}
+use Rattle.queries.specs.Queries.{Lent, refuses, answers, on_node, check_node, execution_blocked, blocking_predecessors, successors, remove, freed, layer_after}
 use Rattle.queries.specs.Queries.{new_front_layer}
 use Rattle.queries.specs.Marks.{no_node, every_node, kept, without, layer_by, Listed, Neighbours, Closed, Waiting, FirstAt}
-use Rattle.graph.proofs.SoundnessLaws.{Sound}
+use Rattle.graph.proofs.SoundnessLaws.{Sound, sound_told}
+use Rattle.file.specs.declared.Refusal.{Refusal}
+use Rattle.std.specs.Prelude.{ltb, Result, Ok, Err, ⊤}
 use Rattle.queries.proofs.BufferLaws.{remove_first, first_member, first_absent, length_some}
 use Rattle.queries.proofs.ReachLaws.{blocking_only, blocking-kept, predecessors_kept, successors-kept, freed-kept}
 
@@ -75,6 +77,49 @@ module _ (g : CircuitDag) (executed : List ℕ) (v : ℕ) (b : List ℕ) where
     layer_without h k i f l = rw (h, lt-ltb v (size g) k, first_absent v layer i f l) refl
 
 -- ---- the answers
+
+pub sound_ok : (g : CircuitDag) (u : ⊤) → check_sound g ≡ Ok u → sound g ≡ true
+sound_ok g u e = go (sound g) e
+  where
+    go : (a : Bool) → ◌≡◌ {A = Result ⊤ Refusal} (cond a (Ok tt) (Err Unsound)) (Ok u) → a ≡ true
+    go true e = refl
+    go false e = let z : ◌≡◌ {A = ℕ} 0 1 = cc in absurd (omega arith)
+
+-- a graph that isn't sound is refused 11
+pub not_sound : (g : CircuitDag) (c : Refusal) → check_sound g ≡ Err c → (sound g ≡ false) × (c ≡ Unsound)
+not_sound g c e = go (sound g) refl e
+  where
+    go : (a : Bool) → sound g ≡ a → ◌≡◌ {A = Result ⊤ Refusal} (cond a (Ok tt) (Err Unsound)) (Err c) → (sound g ≡ false) × (c ≡ Unsound)
+    go true s e = let z : ◌≡◌ {A = ℕ} 0 1 = cc in absurd (omega arith)
+    go false s e = (s, cc)
+
+-- what a node that may be asked about has
+pub record Asked (g : CircuitDag) (v : ℕ) : Type 0 where
+  pub told : sound g ≡ true
+  pub low : v < size g
+  pub is_sound : Sound g
+
+pub asked : (g : CircuitDag) (v : ℕ) (u : ⊤) → length g.commuting.list ≡ 512 → check_node g v ≡ Ok u → Asked g v
+asked g v u k e = go (sound g) (ltb v (size g)) refl refl e
+  where
+    go : (a b : Bool) → sound g ≡ a → ltb v (size g) ≡ b
+        → ◌≡◌ {A = Result ⊤ Refusal} (cond a (cond b (Ok tt) (Err Absent)) (Err Unsound)) (Ok u) → Asked g v
+    go true true s l e = record { told = s; low = ltb-true _ _ l; is_sound = sound_told g k s }
+    go true false s l e = let z : ◌≡◌ {A = ℕ} 0 1 = cc in absurd (omega arith)
+    go false b s l e = let z : ◌≡◌ {A = ℕ} 0 1 = cc in absurd (omega arith)
+
+-- .. and what one that may not is answered
+pub not-asked : (g : CircuitDag) (v : ℕ) (c : Refusal) (b : List ℕ) (x : Lent) → check_node g v ≡ Err c → refuses c b ≡ on_node g v b x
+not-asked g v c b x e = go (sound g) (ltb v (size g)) e
+  where
+    refused : (r d : Refusal) → ◌≡◌ {A = Result ⊤ Refusal} (Err r) (Err d) → refuses d b ≡ refuses r b
+    refused r d e = let z : d ≡ r = cc in rw z refl
+
+    go : (a d : Bool) → ◌≡◌ {A = Result ⊤ Refusal} (cond a (cond d (Ok tt) (Err Absent)) (Err Unsound)) (Err c)
+        → refuses c b ≡ cond (not a) (refuses Unsound b) (cond d x (refuses Absent b))
+    go true true e = let z : ◌≡◌ {A = ℕ} 0 1 = cc in absurd (omega arith)
+    go true false e = refused Absent c e
+    go false d e = refused Unsound c e
 
 module _ (g : CircuitDag) (S : Sound g) (h : sound g ≡ true) (v : ℕ) (low : v < size g) (b : List ℕ) (y : Lent) (mark skip : List Bool) where
   pub blocked_answers : (executed : List ℕ) → Closed g.edges.from g.edges.to g.edges.count (set no_node v true) mark → Listed (v ∷ executed) skip

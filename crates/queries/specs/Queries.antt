@@ -1,31 +1,33 @@
 -- "Queries", with their refusals and lent buffers: "queries 11, 8, 9, 10". Assumes nothing.
-use Rattle.std.specs.Prelude.{cond, not, ◌||◌, List, [], ◌∷◌, ◌++◌, ℕ, ltb, eqb, length}
+use Rattle.std.specs.Prelude.{cond, not, ◌||◌, List, [], ◌∷◌, ◌++◌, ℕ, ltb, eqb, length, Result, Ok, Err, ⊤}
 use Rattle.file.specs.Lists.{keep, member, is_empty, onto}
 use Rattle.file.specs.declared.Refusal.{Refusal}
 use Rattle.file.specs.declared.Refusal.TheVariants.{Absent, NotInLayer, ShortBuffer, Unsound}
 use Rattle.graph.specs.declared.CircuitDag.{CircuitDag}
-use Rattle.queries.specs.declared.Query.{Query}
-use Rattle.queries.specs.declared.Query.TheVariants.{Entries, Refused}
 use Rattle.graph.specs.Dag.{size}
 use Rattle.graph.specs.Soundness.{sound}
 use Rattle.queries.specs.Reach.{blocking, predecessors_of, successors_of}
 
 -- the answer, and the lent buffer afterwards
 pub record Lent : Type 0 where
-  pub answer : Query
+  pub answer : Result ℕ Refusal
   pub buffer : List ℕ
 
 -- "left as it was: buffers"
 abbrev pub refuses : Refusal → List ℕ → Lent
-refuses r buffer = record { answer = Refused r; buffer = buffer }
+refuses r buffer = record { answer = Err r; buffer = buffer }
 
 -- "buffer shorter than the answer"; "Entries after the answer keep their old contents."
 abbrev pub answers : List ℕ → List ℕ → Lent
-answers l buffer = cond (ltb (length buffer) (length l)) (refuses ShortBuffer buffer) (record { answer = Entries (length l); buffer = onto l buffer })
+answers l buffer = cond (ltb (length buffer) (length l)) (refuses ShortBuffer buffer) (record { answer = Ok (length l); buffer = onto l buffer })
 
 -- "queries 11, 8", then the answer
 abbrev pub on_node : CircuitDag → ℕ → List ℕ → Lent → Lent
 on_node g v buffer x = cond (not (sound g)) (refuses Unsound buffer) (cond (ltb v (size g)) x (refuses Absent buffer))
+
+-- "queries 11, 8"
+abbrev pub check_node : CircuitDag → ℕ → Result ⊤ Refusal
+check_node g v = cond (sound g) (cond (ltb v (size g)) (Ok tt) (Err Absent)) (Err Unsound)
 
 -- "`execution_blocked`: all nodes other than the given one from which it is reached, minus those in the executed list, ascending."
 unfoldable pub execution_blocked : CircuitDag → List ℕ → ℕ → List ℕ → Lent

@@ -1,9 +1,11 @@
 // What a graph answers into a lent buffer: the queries, and the conversion to a circuit. The rules are in specs/.
 #![tactic(auto)]
 
+mod arcs;
 mod conversion;
 mod queries;
 
+pub use arcs::Arcs;
 pub use conversion::{definitions_first, to_circuit};
 use file::Refusal;
 pub use queries::{
@@ -16,11 +18,4 @@ pub use queries::{
 pub struct Order {
     pub count: usize,
     pub list: [u16; 512],
-}
-
-// What a query answers: how many entries it wrote to the lent buffer.
-#[derive(Clone, Copy)]
-pub enum Query {
-    Entries(usize),
-    Refused(Refusal),
 }

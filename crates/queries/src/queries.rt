@@ -1,41 +1,33 @@
 // Queries on a handed-in graph, each answered into a lent buffer. Sets of nodes are marks; edges are read in passes.
-ghost use Rattle.std.specs.Prelude.{◌≡◌, true, false, not, ◌&&◌, ◌∷◌, ◌++◌, ℕ, ◌+◌, ◌-◌, ◌≤◌, ◌<◌, ltb, leb, length, get_or, set};
-ghost use Rattle.std.proofs.Math.Seq.{slice};
+ghost use Rattle.std.specs.Prelude.{◌≡◌, true, false, not, ◌&&◌, ◌∷◌, ◌++◌, ℕ, ◌+◌, ◌≤◌, ◌<◌, ltb, leb, length, get_or, set, IfSome, IfNone, OnOk};
 ghost use Rattle.file.specs.Lists.{members, put_at};
 ghost use Rattle.queries.specs.Marks.{no_node, every_node, kept, without, layer_by, Listed, EndsBelow, Ordered, LeadsAbove, Neighbours};
-ghost use Rattle.queries.specs.Marks.{Swept, Closed, Waiting, FirstAt};
-ghost use Rattle.queries.specs.Queries.{answers, execution_blocked, blocking_predecessors, successors as successors_rule, new_front_layer};
+ghost use Rattle.queries.specs.Marks.{Carried, in_turn, Swept, Closed, Waiting, FirstAt};
+ghost use Rattle.queries.specs.Queries.{answers, check_node, execution_blocked, blocking_predecessors, successors as successors_rule, new_front_layer};
 
-use crate::Query;
+use crate::Arcs;
 use file::Refusal;
-use graph::{CircuitDag, NodeIndex, is_sound, no_marks};
+use graph::{CircuitDag, NodeIndex, check_sound, no_marks};
 
 // The node v alone.
+#[tactic(auto, unfolding(crate::specs::Marks::no_node))]
 fn only(v: NodeIndex) -> [bool; 512]
     requires { v.0 < 512 }
     ensures { result ≡ set no_node v.0 true }
 {
-    let mut r = no_marks();
-    let i = v.0 as usize;
-    r[i] = true;
+    let mut r = [false; 512];
+    r[usize::from(v.0)] = true;
     r
 }
 
-// Every node.
-fn every() -> [bool; 512]
-    ensures { result ≡ every_node }
-{
-    [true; 512]
-}
-
 // Every node but v.
+#[tactic(auto, unfolding(crate::specs::Marks::every_node))]
 fn all_but(v: NodeIndex) -> [bool; 512]
     requires { v.0 < 512 }
     ensures { result ≡ set every_node v.0 false }
 {
-    let mut r = every();
-    let i = v.0 as usize;
-    r[i] = false;
+    let mut r = [true; 512];
+    r[usize::from(v.0)] = false;
     r
 }
 
@@ -44,13 +36,10 @@ fn listed(list: &[u16]) -> [bool; 512]
     ensures { Listed list.now result }
 {
     let mut r = [false; 512];
-    let mut i: usize = 0;
-    while i < list.len() {
-        let u = file::to_index(list[i]);
-        if u < 512 {
-            r[u] = true;
+    for u in list {
+        if *u < 512 {
+            r[usize::from(*u)] = true;
         }
-        i += 1;
     }
     r
 }
@@ -61,152 +50,108 @@ fn listed_with(list: &[u16], v: NodeIndex) -> [bool; 512]
     ensures { Listed (v.0 ∷ list.now) result }
 {
     let mut r = listed(list);
-    let i = v.0 as usize;
-    r[i] = true;
+    r[usize::from(v.0)] = true;
     r
 }
 
-// The near ends of the edges whose far end is not skipped.
-fn neighbours(skip: &[bool; 512], near: &[u16; 2048], far: &[u16; 2048], m: usize) -> [bool; 512]
-    requires { EndsBelow near.now far.now m }
-    ensures { Neighbours skip.now near.now far.now m result }
+// The near ends of the arcs whose far end is not skipped.
+fn neighbours(skip: &[bool; 512], arcs: &Arcs) -> [bool; 512]
+    ensures { Neighbours skip.now arcs.now.near.now arcs.now.far.now arcs.now.count result }
 {
     let mut r = [false; 512];
-    let mut i: usize = 0;
-    while i < m {
-        let a = file::to_index(near[i]);
-        let b = file::to_index(far[i]);
-        r[a] = r[a] | !skip[b];
-        i += 1;
+    for i in 0..arcs.count {
+        r[arcs.near_end(i)] |= !skip[arcs.far_end(i)];
     }
     r
 }
 
-// The near ends of the edges whose far end is v.
-fn neighbours_of(v: NodeIndex, near: &[u16; 2048], far: &[u16; 2048], m: usize) -> [bool; 512]
-    requires { (v.0 < 512) × EndsBelow near.now far.now m }
-    ensures { Neighbours (set every_node v.0 false) near.now far.now m result }
+// The near ends of the arcs whose far end is v.
+fn neighbours_of(v: NodeIndex, arcs: &Arcs) -> [bool; 512]
+    requires { v.0 < 512 }
+    ensures { Neighbours (set every_node v.0 false) arcs.now.near.now arcs.now.far.now arcs.now.count result }
 {
-    let others = all_but(v);
-    neighbours(&others, near, far, m)
+    neighbours(&all_but(v), arcs)
 }
 
-// One pass up the edge list: a marked far end marks the near end, with no branch. Did a mark come new?
-fn sweep_up(mark: &mut [bool; 512], near: &[u16; 2048], far: &[u16; 2048], m: usize) -> bool
-    requires { EndsBelow near.now far.now m × (length mark.old ≡ 512) }
-    ensures { Swept near.now far.now m mark.old mark.new result }
+// A marked far end marks the near end, with no branch. Did the mark come new?
+fn carry(mark: &mut [bool; 512], arcs: &Arcs, i: usize) -> bool
+    requires { i < arcs.now.count }
+    ensures { Carried arcs.now.near.now arcs.now.far.now i mark.old mark.new result }
+{
+    let a = arcs.near_end(i);
+    let old = mark[a];
+    let new = mark[arcs.far_end(i)];
+    mark[a] = old | new;
+    new & !old
+}
+
+// The arc that comes i-th in a pass up or down the m arcs.
+fn in_turn(i: usize, m: usize, up: bool) -> usize
+    requires { i < m }
+    ensures { result ≡ in_turn i m up }
+{
+    if up { i } else { m - (i + 1) }
+}
+
+// One pass, up or down the arcs. Did a mark come new?
+fn sweep(mark: &mut [bool; 512], arcs: &Arcs, up: bool) -> bool
+    ensures { Swept arcs.now.near.now arcs.now.far.now arcs.now.count mark.old mark.new result }
 {
     let mut moved = false;
-    let mut i: usize = 0;
-    while i < m {
-        let a = file::to_index(near[i]);
-        let b = file::to_index(far[i]);
-        let old = mark[a];
-        let new = mark[b];
-        mark[a] = old | new;
-        moved = moved | (new & !old);
-        i += 1;
+    for i in 0..arcs.count {
+        moved |= carry(mark, arcs, in_turn(i, arcs.count, up));
     }
     moved
-}
-
-// The same pass down the list.
-fn sweep_down(mark: &mut [bool; 512], near: &[u16; 2048], far: &[u16; 2048], m: usize) -> bool
-    requires { EndsBelow near.now far.now m × (length mark.old ≡ 512) }
-    ensures { Swept near.now far.now m mark.old mark.new result }
-{
-    let mut moved = false;
-    let mut i: usize = m;
-    while 0 < i {
-        i -= 1;
-        let a = file::to_index(near[i]);
-        let b = file::to_index(far[i]);
-        let old = mark[a];
-        let new = mark[b];
-        mark[a] = old | new;
-        moved = moved | (new & !old);
-    }
-    moved
-}
-
-// One pass, up or down.
-fn sweep(mark: &mut [bool; 512], near: &[u16; 2048], far: &[u16; 2048], m: usize, up: bool) -> bool
-    requires { EndsBelow near.now far.now m × (length mark.old ≡ 512) }
-    ensures { Swept near.now far.now m mark.old mark.new result }
-{
-    if up {
-        return sweep_up(mark, near, far, m);
-    }
-    sweep_down(mark, near, far, m)
 }
 
 // Passes in turn up and down until no mark comes new; the first one up or down.
-fn spread(mark: &mut [bool; 512], near: &[u16; 2048], far: &[u16; 2048], m: usize, first_up: bool)
-    requires { EndsBelow near.now far.now m × (length mark.old ≡ 512) }
-    ensures { Closed near.now far.now m mark.old mark.new }
+fn spread(mark: &mut [bool; 512], arcs: &Arcs, first_up: bool)
+    ensures { Closed arcs.now.near.now arcs.now.far.now arcs.now.count mark.old mark.new }
 {
     let mut up = first_up;
     let mut moved = true;
     while moved {
-        moved = sweep(&mut *mark, near, far, m, up);
+        moved = sweep(mark, arcs, up);
         up = !up;
     }
 }
 
 // An edge leads to a larger number, which is not below the last edge's.
-fn rises(from: NodeIndex, to: NodeIndex, last: NodeIndex) -> bool
-    ensures { result ≡ (ltb from.0 to.0 && leb last.0 to.0) }
+fn rises(from: u16, to: u16, last: u16) -> bool
+    ensures { result ≡ (ltb from to && leb last to) }
 {
-    (from.0 < to.0) & (last.0 <= to.0)
+    (from < to) & (last <= to)
 }
 
 // Does every edge lead to a larger number, and do these ascend along the list? So it is after insertions at the back alone. No branch on an
 // edge, so that the compiler takes many at a time.
-fn is_ordered(from: &[u16; 2048], to: &[u16; 2048], m: usize) -> bool
-    requires { m ≤ 2048 }
-    ensures { result ≡ true → Ordered from.now to.now m }
+fn is_ordered(arcs: &Arcs) -> bool
+    ensures { result ≡ true → Ordered arcs.now.near.now arcs.now.far.now arcs.now.count }
 {
     let mut ordered = true;
     let mut last: u16 = 0;
-    let mut i: usize = 0;
-    while i < m {
-        let t = to[i];
-        ordered = ordered & rises(NodeIndex(from[i]), NodeIndex(t), NodeIndex(last));
-        last = t;
-        i += 1;
+    for i in 0..arcs.count {
+        ordered &= rises(arcs.near[i], arcs.far[i], last);
+        last = arcs.far[i];
     }
     ordered
 }
 
-// An index from which on the edges lead above v, by halving; their targets ascend.
-fn leads_above(to: &[u16; 2048], m: usize, v: NodeIndex) -> usize
-    requires { (m ≤ 2048) × ((i j : ℕ) → i ≤ j → j < m → get_or to.now i 0 ≤ get_or to.now j 0) }
-    ensures { LeadsAbove to.now m v.0 result }
+// An index from which on the arcs lead above v; their far ends ascend.
+fn leads_above(far: &[u16; 2048], m: usize, v: NodeIndex) -> usize
+    requires { (m ≤ 2048) × ((i j : ℕ) → i ≤ j → j < m → get_or far.now i 0 ≤ get_or far.now j 0) }
+    ensures { LeadsAbove far.now m v.0 result }
 {
-    let mut low: usize = 0;
-    let mut high: usize = m;
-    while low < high {
-        let mid = low + (high - low) / 2;
-        if v.0 < to[mid] {
-            high = mid;
-        } else {
-            low = mid + 1;
-        }
-    }
-    high
+    far[..m].partition_point(|u| *u <= v.0)
 }
 
-// One pass down the first k edges of an ordered list carries every mark as far as it goes.
-fn settle(mark: &mut [bool; 512], near: &[u16; 2048], far: &[u16; 2048], k: usize)
-    requires { EndsBelow near.now far.now k × Ordered near.now far.now k × (length mark.old ≡ 512) }
-    ensures { Closed near.now far.now k mark.old mark.new }
+// One pass down the first k arcs of an ordered list carries every mark as far as it goes.
+fn settle(mark: &mut [bool; 512], arcs: &Arcs, k: usize)
+    requires { (k ≤ arcs.now.count) × Ordered arcs.now.near.now arcs.now.far.now k }
+    ensures { Closed arcs.now.near.now arcs.now.far.now k mark.old mark.new }
 {
-    let mut i: usize = k;
-    while 0 < i {
-        i -= 1;
-        let a = file::to_index(near[i]);
-        let b = file::to_index(far[i]);
-        mark[a] = mark[a] | mark[b];
+    for i in (0..k).rev() {
+        mark[arcs.near_end(i)] |= mark[arcs.far_end(i)];
     }
 }
 
@@ -223,12 +168,10 @@ fn count_kept(mark: &[bool; 512], skip: &[bool; 512], n: usize) -> usize
     ensures { result ≡ length (kept mark.now skip.now n) }
 {
     let mut k: usize = 0;
-    let mut u: usize = 0;
-    while u < n {
+    for u in 0..n {
         if is_kept(mark[u], skip[u]) {
             k += 1;
         }
-        u += 1;
     }
     k
 }
@@ -239,99 +182,82 @@ fn write_kept(mark: &[bool; 512], skip: &[bool; 512], n: usize, buffer: &mut [u1
     ensures { buffer.new ≡ put_at start (kept mark.now skip.now n) buffer.old }
 {
     let mut k: usize = start;
-    let mut u: usize = 0;
-    while u < n {
+    for u in 0..n {
         if is_kept(mark[u], skip[u]) {
             buffer[k] = u as u16;
             k += 1;
         }
-        u += 1;
     }
 }
 
 // The answer of a query whose entries are those nodes.
-fn answer_kept(mark: &[bool; 512], skip: &[bool; 512], n: usize, buffer: &mut [u16]) -> Query
+fn answer_kept(
+    mark: &[bool; 512],
+    skip: &[bool; 512],
+    n: usize,
+    buffer: &mut [u16],
+) -> Result<usize, Refusal>
     requires { n ≤ 512 }
     ensures { record { answer = result; buffer = buffer.new }
         ≡ answers (kept mark.now skip.now n) buffer.old }
 {
     let k = count_kept(mark, skip, n);
     if buffer.len() < k {
-        return Query::Refused(Refusal::ShortBuffer);
+        return Err(Refusal::ShortBuffer);
     }
     write_kept(mark, skip, n, buffer, 0);
-    Query::Entries(k)
+    Ok(k)
 }
 
 // The answer of a query whose entries are the marked nodes, ascending.
-pub fn answer_marked(mark: [bool; 512], buffer: &mut [u16]) -> Query
+pub fn answer_marked(mark: [bool; 512], buffer: &mut [u16]) -> Result<usize, Refusal>
     ensures { record { answer = result; buffer = buffer.new } ≡ answers (members mark) buffer.old }
 {
     let none = no_marks();
     answer_kept(&mark, &none, 512, buffer)
 }
 
-// The first index of v in the list; its length where v does not stand there.
-fn index_in(list: &[u16], v: NodeIndex) -> usize
-    ensures { FirstAt v.0 list.now result }
+// The first index of v in the list.
+fn index_in(list: &[u16], v: NodeIndex) -> Option<usize>
+    ensures there { IfSome result (λ i. FirstAt v.0 list.now i × (i < length list.now)) }
+    ensures absent { IfNone result (FirstAt v.0 list.now (length list.now)) }
 {
-    let mut i: usize = 0;
-    while i < list.len() {
-        if list[i] == v.0 {
-            return i;
-        }
-        i += 1;
-    }
-    i
+    list.iter().position(|u| *u == v.0)
 }
 
-// The list's entries from index a to before e, over the buffer's entries from start on.
-fn copy_part(list: &[u16], a: usize, e: usize, buffer: &mut [u16], start: usize)
-    requires { (a ≤ e) × (e ≤ length list.now) × (start + (e - a) ≤ length buffer.old) }
-    ensures { buffer.new ≡ put_at start (slice a e list.now) buffer.old }
-{
-    let mut i: usize = a;
-    while i < e {
-        buffer[start + (i - a)] = list[i];
-        i += 1;
-    }
-}
-
-// The node v and those from which it is reached: marks from v against the edges. In an ordered list no edge that leads above v counts.
-fn ancestors(from: &[u16; 2048], to: &[u16; 2048], m: usize, v: NodeIndex) -> [bool; 512]
-    requires { EndsBelow from.now to.now m × (v.0 < 512) }
-    ensures { Closed from.now to.now m (set no_node v.0 true) result }
+// The node v and those from which it is reached: marks from v against the edges. In an ordered list no edge that leads
+// above v counts.
+fn ancestors(arcs: &Arcs, v: NodeIndex) -> [bool; 512]
+    requires { v.0 < 512 }
+    ensures { Closed arcs.now.near.now arcs.now.far.now arcs.now.count (set no_node v.0 true) result }
 {
     let mut mark = only(v);
-    if is_ordered(from, to, m) {
-        let k = leads_above(to, m, v);
-        settle(&mut mark, from, to, k);
+    if is_ordered(arcs) {
+        settle(&mut mark, arcs, leads_above(arcs.far, arcs.count, v));
         return mark;
     }
-    spread(&mut mark, from, to, m, false);
+    spread(&mut mark, arcs, false);
     mark
 }
 
 // The nodes that have an ancestor that is not skipped: marks from the ends of such nodes' edges along the edges.
-fn waiting(skip: &[bool; 512], from: &[u16; 2048], to: &[u16; 2048], m: usize) -> [bool; 512]
-    requires { EndsBelow to.now from.now m }
-    ensures { Waiting skip.now to.now from.now m result }
+fn waiting(skip: &[bool; 512], arcs: &Arcs) -> [bool; 512]
+    ensures { Waiting skip.now arcs.now.near.now arcs.now.far.now arcs.now.count result }
 {
-    let mut mark = neighbours(skip, to, from, m);
-    spread(&mut mark, to, from, m, true);
+    let mut mark = neighbours(skip, arcs);
+    spread(&mut mark, arcs, true);
     mark
 }
 
 // The answer of a query whose entries are a list.
-pub fn answer_list(list: &[u16], buffer: &mut [u16]) -> Query
+pub fn answer_list(list: &[u16], buffer: &mut [u16]) -> Result<usize, Refusal>
     ensures { record { answer = result; buffer = buffer.new } ≡ answers list.now buffer.old }
 {
-    let len = list.len();
-    if buffer.len() < len {
-        return Query::Refused(Refusal::ShortBuffer);
+    if buffer.len() < list.len() {
+        return Err(Refusal::ShortBuffer);
     }
-    copy_part(list, 0, len, buffer, 0);
-    Query::Entries(len)
+    buffer[..list.len()].copy_from_slice(list);
+    Ok(list.len())
 }
 
 // The answer of a layer without its entry at index i, followed by the k nodes that are marked and not skipped.
@@ -343,23 +269,19 @@ fn answer_next(
     layer: &[u16],
     i: usize,
     buffer: &mut [u16],
-) -> Query
+) -> Result<usize, Refusal>
     requires { (n ≤ 512) × (k ≡ length (kept mark.now skip.now n)) × (i < length layer.now) }
     ensures { record { answer = result; buffer = buffer.new }
         ≡ answers (without i layer.now ++ kept mark.now skip.now n) buffer.old }
 {
-    let len = layer.len();
-    let rest = len - 1;
-    if buffer.len() < rest {
-        return Query::Refused(Refusal::ShortBuffer);
+    let rest = layer.len() - 1;
+    if buffer.len() < rest || buffer.len() - rest < k {
+        return Err(Refusal::ShortBuffer);
     }
-    if buffer.len() - rest < k {
-        return Query::Refused(Refusal::ShortBuffer);
-    }
-    copy_part(layer, 0, i, &mut *buffer, 0);
-    copy_part(layer, i + 1, len, &mut *buffer, i);
+    buffer[..i].copy_from_slice(&layer[..i]);
+    buffer[i..rest].copy_from_slice(&layer[i + 1..]);
     write_kept(mark, skip, n, buffer, rest);
-    Query::Entries(rest + k)
+    Ok(rest + k)
 }
 
 // The answer of new_front_layer where there are successors: they are marked, and the skipped ones wait.
@@ -370,7 +292,7 @@ fn answer_layer(
     layer: &[u16],
     i: usize,
     buffer: &mut [u16],
-) -> Query
+) -> Result<usize, Refusal>
     requires { (n ≤ 512) × (i < length layer.now) }
     ensures { record { answer = result; buffer = buffer.new }
         ≡ answers (layer_by (kept mark.now skip.now n) layer.now i) buffer.old }
@@ -382,103 +304,106 @@ fn answer_layer(
     answer_next(mark, skip, n, k, layer, i, buffer)
 }
 
+// 11 where the graph isn't sound, 8 where it has no node v.
+fn check_node(g: CircuitDag, v: NodeIndex) -> Result<(), Refusal>
+    ensures value { result ≡ check_node g v.0 }
+    ensures node { OnOk result ((v.0 < g.nodes.count) × (g.nodes.count ≤ 512)) }
+    ensures back { OnOk result (EndsBelow g.edges.from g.edges.to g.edges.count) }
+    ensures on { OnOk result (EndsBelow g.edges.to g.edges.from g.edges.count) }
+{
+    check_sound(g)?;
+    if g.nodes.count <= usize::from(v.0) {
+        return Err(Refusal::Absent);
+    }
+    Ok(())
+}
+
 // All nodes other than v from which v is reached, minus those in the executed list, ascending.
-pub fn execution_blocked(g: CircuitDag, executed: &[u16], v: NodeIndex, buffer: &mut [u16]) -> Query
+#[tactic(auto, unfolding(crate::specs::Queries::execution_blocked))]
+pub fn execution_blocked(
+    g: CircuitDag,
+    executed: &[u16],
+    v: NodeIndex,
+    buffer: &mut [u16],
+) -> Result<usize, Refusal>
     ensures { record { answer = result; buffer = buffer.new }
         ≡ execution_blocked g executed.now v.0 buffer.old }
 {
-    if !is_sound(g) {
-        return Query::Refused(Refusal::Unsound);
-    }
-    let n = g.nodes.count;
-    if n <= file::to_index(v.0) {
-        return Query::Refused(Refusal::Absent);
-    }
-    let m = g.edges.count;
-    let from = g.edges.from;
-    let to = g.edges.to;
-    let mark = ancestors(&from, &to, m, v);
-    let skip = listed_with(executed, v);
-    answer_kept(&mark, &skip, n, buffer)
+    check_node(g, v)?;
+    let arcs = Arcs {
+        near: &g.edges.from,
+        far: &g.edges.to,
+        count: g.edges.count,
+    };
+    let mark = ancestors(&arcs, v);
+    answer_kept(&mark, &listed_with(executed, v), g.nodes.count, buffer)
 }
 
 // The direct predecessors of v, minus those in the executed list, ascending.
+#[tactic(auto, unfolding(crate::specs::Queries::blocking_predecessors))]
 pub fn blocking_predecessors(
     g: CircuitDag,
     executed: &[u16],
     v: NodeIndex,
     buffer: &mut [u16],
-) -> Query
+) -> Result<usize, Refusal>
     ensures { record { answer = result; buffer = buffer.new }
         ≡ blocking_predecessors g executed.now v.0 buffer.old }
 {
-    if !is_sound(g) {
-        return Query::Refused(Refusal::Unsound);
-    }
-    let n = g.nodes.count;
-    if n <= file::to_index(v.0) {
-        return Query::Refused(Refusal::Absent);
-    }
-    let m = g.edges.count;
-    let from = g.edges.from;
-    let to = g.edges.to;
-    let mark = neighbours_of(v, &from, &to, m);
-    let skip = listed(executed);
-    answer_kept(&mark, &skip, n, buffer)
+    check_node(g, v)?;
+    let arcs = Arcs {
+        near: &g.edges.from,
+        far: &g.edges.to,
+        count: g.edges.count,
+    };
+    let mark = neighbours_of(v, &arcs);
+    answer_kept(&mark, &listed(executed), g.nodes.count, buffer)
 }
 
 // The direct successors of v, ascending.
-pub fn successors(g: CircuitDag, v: NodeIndex, buffer: &mut [u16]) -> Query
+#[tactic(auto, unfolding(crate::specs::Queries::successors))]
+pub fn successors(g: CircuitDag, v: NodeIndex, buffer: &mut [u16]) -> Result<usize, Refusal>
     ensures { record { answer = result; buffer = buffer.new } ≡ successors_rule g v.0 buffer.old }
 {
-    if !is_sound(g) {
-        return Query::Refused(Refusal::Unsound);
-    }
-    let n = g.nodes.count;
-    if n <= file::to_index(v.0) {
-        return Query::Refused(Refusal::Absent);
-    }
-    let m = g.edges.count;
-    let from = g.edges.from;
-    let to = g.edges.to;
-    let mark = neighbours_of(v, &to, &from, m);
-    let skip = no_marks();
-    answer_kept(&mark, &skip, n, buffer)
+    check_node(g, v)?;
+    let arcs = Arcs {
+        near: &g.edges.to,
+        far: &g.edges.from,
+        count: g.edges.count,
+    };
+    let mark = neighbours_of(v, &arcs);
+    answer_kept(&mark, &no_marks(), g.nodes.count, buffer)
 }
 
 // The layer after v has run: its first occurrence goes and the successors that are not blocked follow, ascending;
 // with successors that are all blocked the layer stays.
+#[tactic(auto, unfolding(crate::specs::Queries::new_front_layer))]
 pub fn new_front_layer(
     g: CircuitDag,
     executed: &[u16],
     layer: &[u16],
     v: NodeIndex,
     buffer: &mut [u16],
-) -> Query
+) -> Result<usize, Refusal>
     ensures { record { answer = result; buffer = buffer.new }
         ≡ new_front_layer g executed.now layer.now v.0 buffer.old }
 {
-    if !is_sound(g) {
-        return Query::Refused(Refusal::Unsound);
-    }
+    check_node(g, v)?;
+    let Some(i) = index_in(layer, v) else {
+        return Err(Refusal::NotInLayer);
+    };
     let n = g.nodes.count;
-    if n <= file::to_index(v.0) {
-        return Query::Refused(Refusal::Absent);
-    }
-    let i = index_in(layer, v);
-    if layer.len() <= i {
-        return Query::Refused(Refusal::NotInLayer);
-    }
-    let m = g.edges.count;
-    let from = g.edges.from;
-    let to = g.edges.to;
-    let next = neighbours_of(v, &to, &from, m);
+    let arcs = Arcs {
+        near: &g.edges.to,
+        far: &g.edges.from,
+        count: g.edges.count,
+    };
+    let next = neighbours_of(v, &arcs);
     let blank = no_marks();
     let all = count_kept(&next, &blank, n);
     if all == 0 {
         return answer_next(&next, &blank, n, all, layer, i, buffer);
     }
-    let skip = listed_with(executed, v);
-    let bad = waiting(&skip, &from, &to, m);
+    let bad = waiting(&listed_with(executed, v), &arcs);
     answer_layer(&next, &bad, n, layer, i, buffer)
 }

@@ -4,11 +4,9 @@
 // answer stands the start of the lent buffer, which held 9999. tools/graph_answers.py computes the same from document 01.
 #![tactic(auto)]
 
-use file::{Outcome, Refusal, RefusalValue};
+use file::Refusal;
 use graph::{CircuitDag, NodeIndex};
-use queries::Query;
 use std::io;
-use walk::BlockCount;
 
 fn print(rt: &impl Print, text: &[u8]) -> io::Result<()> {
     rt.write_all(text)
@@ -23,8 +21,8 @@ fn print_refusal(rt: &impl Print, r: Refusal) -> io::Result<()> {
     print_number(rt, file::refusal_number(r) as usize)?;
     let value = file::refusal_value(r);
     match value {
-        RefusalValue::Nothing => {}
-        RefusalValue::At(i) => {
+        None => {}
+        Some(i) => {
             print(rt, b" at")?;
             print_number(rt, i)?;
         }
@@ -35,22 +33,25 @@ fn print_refusal(rt: &impl Print, r: Refusal) -> io::Result<()> {
 // The first nine entries of a buffer, as many as the longest list has, and the end of the line.
 fn print_buffer(rt: &impl Print, buffer: &[u16]) -> io::Result<()> {
     print(rt, b" |")?;
-    let mut i: usize = 0;
-    while i < 9 {
+    for i in 0..9 {
         if buffer.len() <= i {
             break;
         }
         print_number(rt, file::to_index(buffer[i]))?;
-        i += 1;
     }
     print(rt, b"\n")
 }
 
-fn print_query(rt: &impl Print, title: &[u8], answer: Query, buffer: &[u16]) -> io::Result<()> {
+fn print_query(
+    rt: &impl Print,
+    title: &[u8],
+    answer: Result<usize, Refusal>,
+    buffer: &[u16],
+) -> io::Result<()> {
     print(rt, title)?;
     match answer {
-        Query::Entries(k) => print_number(rt, k)?,
-        Query::Refused(r) => print_refusal(rt, r)?,
+        Ok(k) => print_number(rt, k)?,
+        Err(r) => print_refusal(rt, r)?,
     }
     print_buffer(rt, buffer)
 }
@@ -58,13 +59,13 @@ fn print_query(rt: &impl Print, title: &[u8], answer: Query, buffer: &[u16]) -> 
 fn print_count(
     rt: &impl Print,
     title: &[u8],
-    answer: BlockCount,
+    answer: Result<usize, Refusal>,
     buffer: &[u16],
 ) -> io::Result<()> {
     print(rt, title)?;
     match answer {
-        BlockCount::Blocks(k) => print_number(rt, k)?,
-        BlockCount::Refused(r) => print_refusal(rt, r)?,
+        Ok(k) => print_number(rt, k)?,
+        Err(r) => print_refusal(rt, r)?,
     }
     print_buffer(rt, buffer)
 }
@@ -72,10 +73,8 @@ fn print_count(
 // A buffer before a call.
 fn fill(buffer: &mut [u16]) {
     let n = buffer.len();
-    let mut i: usize = 0;
-    while i < n {
+    for i in 0..n {
         buffer[i] = 9999;
-        i += 1;
     }
 }
 
@@ -201,7 +200,7 @@ fn probe_load(rt: &impl Print, bytes: &[u8]) -> io::Result<()> {
     let loaded = insertion::load(bytes);
     let answer = loaded.answer;
     let g = loaded.graph;
-    if let Outcome::Refused(r) = answer {
+    if let Err(r) = answer {
         print(rt, b"load")?;
         print_refusal(rt, r)?;
         print(rt, b"\n")?;

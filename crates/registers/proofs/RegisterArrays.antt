@@ -1,33 +1,27 @@
 -- The register maps as arrays: what stands in them after a store, and that a key is put as the rule says. Assumes nothing.
-use mathlib.Core.Path.{◌≡◌, refl, sym, ◌∙◌, ap, subst}
-use mathlib.Core.Bool.{true, false, ◌||◌}
+use mathlib.Core.Path.{◌≡◌, sym, ◌∙◌, ap, subst}
+use mathlib.Core.Bool.{true, false}
 use mathlib.Core.List.{List, [], ◌∷◌, ◌++◌, map, map-map, map-append}
-use Prim.Native.Nat.{ℕ, zero, suc, ◌+◌, ◌-◌, ◌<◌, ◌≤◌}
+use Prim.Native.Nat.{ℕ, suc, ◌+◌, ◌-◌, ◌<◌, ◌≤◌}
 use native.Mathlib.Omega.{arith}
 use native.Mathlib.Numerals.{add-one}
-use lib.Dec.{ltb}
 use lib.ListN.{length, get_or, set, take, drop, length-append, length-map, length-set, length-drop, take-append-drop, get_or-append, get_or-map}
 use lib.Seq.{ext_get_or, drop-cons, set-append_left, drop-append-add, drop-drop, set-append_seam, append_snoc, length-take-le, get_or-take, map-set_same}
-use borrow.Author.Tests.{lt-ltb, ltb-true, ltb-false}
+use Rattle.std.proofs.lemmas.List.{map-set}
 use Rattle.file.specs.Lists.{distinct, up_to, onto}
 use Rattle.file.specs.declared.RegisterKey.{RegisterKey}
-use Rattle.file.specs.declared.InvolvedClassical.{InvolvedClassical}
 use Rattle.graph.specs.declared.Registers.{Registers}
 use Rattle.graph.specs.Dag.{Entry, entry, same_key, entry_at, entries_of}
-use Rattle.file.proofs.BoolLaws.{clash_bool, not-true, not-false}
 use Rattle.file.proofs.PutLaws.{length-count_from}
-use Rattle.graph.proofs.ListLaws.{up_to-at}
+use Rattle.graph.proofs.ListLaws.{up_to-at, at-any}
 use Rattle.registers.specs.Registers.{has_key, put, with_entries}
-use Rattle.registers.specs.RegisterMaps.{Grown, registers, keyed, StandsAt, Sized, Fits, Becomes, BothBecome, joined, pass}
-use Rattle.registers.proofs.RegisterLists.{any_false, same_name, same_index, same_by, put-found, put-absent, length-put-has, length-put-new}
+use Rattle.registers.specs.RegisterMaps.{Kept, keyed, StandsAt, Sized, Fits}
+use Rattle.registers.proofs.RegisterLists.{any_false, same_name, same_index, same_by, put-found, put-absent, length-put-new}
 use Rattle.registers.proofs.RegisterLists.{put_grows, distinct-put}
 
--- ---- lists of numbers
-
-map_set : {A B : Type 0} (f : A → B) (l : List A) (i : ℕ) (a : A) → map f (set l i a) ≡ set (map f l) i (f a)
-map_set f [] i a = refl
-map_set f (y ∷ l) zero a = refl
-map_set f (y ∷ l) (suc i) a = ap (λ (m : List _). f y ∷ m) (map_set f l i a)
+-- the map made of a count and the arrays
+abbrev registers : ℕ → List ℕ → List ℕ → List ℕ → Registers
+registers c n i v = record { count = c; name = n; index = i; node = v }
 
 -- ---- an array with entries in front
 
@@ -119,7 +113,7 @@ module _ (r : Registers) (s : Sized r) (room : r.count ≤ 256) where
         index = sym (ap (λ (l : List ℕ). onto l r.index) n ∙ own_index) t;
         node = (ap (λ (l : List ℕ). set l p x.node) (sym own_node)
             ∙ onto_set (map (λ (x : Entry). x.node) (entries_of r)) r.node p x.node k
-            ∙ ap (λ (l : List ℕ). onto l r.node) (sym (map_set (λ (x : Entry). x.node) (entries_of r) p x))) t;
+            ∙ ap (λ (l : List ℕ). onto l r.node) (sym (map-set (λ (x : Entry). x.node) (entries_of r) p x))) t;
       }
 
   -- one entry more, of one field
@@ -169,12 +163,12 @@ sized_with r l s h = record {
 -- ---- a key among the entries
 
 -- it stands at p
-pub key_there : (r : Registers) (key : RegisterKey) (v p : ℕ) → p < r.count → StandsAt r.name r.index key p
+pub key_there : (r : Registers) (key : RegisterKey) (v p : ℕ) → p < r.count → StandsAt r key p
     → same_key (keyed key v) (get_or (entries_of r) p (entry 0 0 0)) ≡ true
 key_there r key v p h s = rw (get_entries r p (entry 0 0 0) h) (same_by (keyed key v) (entry_at r p) (sym s.0) (sym s.1))
 
 -- it stands nowhere
-pub key_missing : (r : Registers) (key : RegisterKey) (v : ℕ) → ((k : ℕ) → k < r.count → StandsAt r.name r.index key k → ⊥)
+pub key_missing : (r : Registers) (key : RegisterKey) (v : ℕ) → ((k : ℕ) → k < r.count → StandsAt r key k → ⊥)
     → has_key (keyed key v) (entries_of r) ≡ false
 key_missing r key v h = any_false (same_key (keyed key v)) (entries_of r) (entry 0 0 0) λ k b e.
     let c : k < r.count = rw (length_entries r) at b in
@@ -183,93 +177,59 @@ key_missing r key v h = any_false (same_key (keyed key v)) (entries_of r) (entry
 
 -- ---- putting a key
 
-pub becomes : (old new : Registers) (l : List Entry) → new ≡ with_entries old l → Becomes old new l
-becomes old new l e = record { passes = ap (λ (r : Registers). ltb 256 r.count) e; kept = λ _. e }
+-- the entries of a map are those that were stored
+pub entries_by : {new : Registers} (r : Registers) (l : List Entry) → new ≡ with_entries r l → entries_of new ≡ l
+entries_by r l e = ap entries_of e ∙ entries_with r l
 
--- what does not fit is over 256 by the rule too
-pub becomes_over : (old new : Registers) (l : List Entry) → Becomes old new l → 256 < new.count → 256 < length l
-becomes_over old new l b h = ltb-true 256 (length l) (sym b.passes ∙ lt-ltb 256 new.count h)
-
-module _ (r : Registers) (f : Fits r) (key : RegisterKey) (v : ℕ) where
-  pub put_there : (p : ℕ) → p < r.count → StandsAt r.name r.index key p
-      → Becomes r (registers r.count r.name r.index (set r.node p v)) (put (keyed key v) (entries_of r))
-  put_there p h s =
-      let e : put (keyed key v) (entries_of r) ≡ set (entries_of r) p (keyed key v)
-      = put-found (keyed key v) (entry 0 0 0) (entries_of r) p (rw (length_entries r) h) f.keys (key_there r key v p h s) in
-      becomes r _ _ (with_set r f.sized f.room p (keyed key v) h s.0 s.1 ∙ ap (with_entries r) (sym e))
-
-  pub put-new : (new : Registers) → has_key (keyed key v) (entries_of r) ≡ false → new ≡ with_entries r (entries_of r ++ (keyed key v ∷ []))
-      → Becomes r new (put (keyed key v) (entries_of r))
-  put-new new h e = becomes r new _ (e ∙ ap (with_entries r) (sym (put-absent (keyed key v) (entries_of r) h)))
-
-  pub put_over : (new : Registers) → has_key (keyed key v) (entries_of r) ≡ false → 256 ≤ r.count → new.count ≡ 257
-      → Becomes r new (put (keyed key v) (entries_of r))
-  put_over new h b e =
-      let n : length (put (keyed key v) (entries_of r)) ≡ r.count + 1 = length-put-new (keyed key v) (entries_of r) h ∙ ap (λ (n : ℕ). n + 1) (length_entries r) in
-      let t : ltb 256 new.count ≡ true = lt-ltb 256 new.count (omega arith) in
-      let u : ltb 256 (length (put (keyed key v) (entries_of r))) ≡ true = lt-ltb 256 (length (put (keyed key v) (entries_of r))) (rw n (omega arith)) in
-      record { passes = t ∙ sym u; kept = λ u. absurd (clash_bool t u) }
-
--- ---- a map that only grows
-
-pub grown_own : (r : Registers) → Fits r → Grown r r
-grown_own r f = record { fits = f; kept = with_own r f.sized f.room; grew = omega arith }
-
-module _ (old r new : Registers) (g : Grown old r) (x : Entry) (b : Becomes r new (put x (entries_of r))) (room : ltb 256 new.count ≡ false) where
-  pub entries_put : entries_of new ≡ put x (entries_of r)
-  entries_put = ap entries_of (b.kept room) ∙ entries_with r (put x (entries_of r))
-
-  pub count-put : new.count ≡ length (put x (entries_of r))
-  count-put = ap (λ (r : Registers). r.count) (b.kept room)
-
-  longer : r.count ≤ length (put x (entries_of r))
-  longer = omega (arith, put_grows x (entries_of r), length_entries r)
-
-  from_old : new ≡ with_entries old (put x (entries_of r))
-  from_old = b.kept room
-      ∙ ap (λ (r' : Registers). with_entries r' (put x (entries_of r))) g.kept
-      ∙ with_with old (entries_of r) (put x (entries_of r)) (put_grows x (entries_of r))
-
-  pub grown-put : Grown old new
-  grown-put = record {
-    fits = record {
-      room = ltb-false 256 new.count room;
-      keys = ap (distinct same_key) entries_put ∙ distinct-put x (entries_of r) g.fits.keys;
-      sized = subst (λ (n : Registers). Sized n) (sym (b.kept room))
-          (sized_with r (put x (entries_of r)) g.fits.sized (omega (arith, count-put, ltb-false 256 new.count room)));
-    };
-    kept = from_old ∙ ap (with_entries old) (sym entries_put);
-    grew = omega (arith, g.grew, longer, count-put);
-  }
-
-  -- the count tells whether the key stood
-  pub count_same : new.count ≤ r.count → has_key x (entries_of r) ≡ true
-  count_same h = not-false λ (t : has_key x (entries_of r) ≡ false). omega (arith, length-put-new x (entries_of r) t, length_entries r, count-put)
-
-  pub count_more : r.count < new.count → has_key x (entries_of r) ≡ false
-  count_more h = not-true λ (t : has_key x (entries_of r) ≡ true). omega (arith, length-put-has x (entries_of r) t, length_entries r, count-put)
-
--- ---- both maps
-
-pub both_over : (k : InvolvedClassical) (s : List ℕ) (v : ℕ) (near far near' far' : Registers) → pass near' far' ≡ true
-    → (ltb 256 (length (joined k s v near far).near) || ltb 256 (length (joined k s v near far).far)) ≡ true → BothBecome k s v near far near' far'
-both_over k s v near far near' far' a b = record {
-  passes = a ∙ sym b;
-  near_count = λ e. absurd (clash_bool a e);
-  far_count = λ e. absurd (clash_bool a e);
-  near_map = λ e. absurd (clash_bool a e);
-  far_map = λ e. absurd (clash_bool a e);
+-- entries of distinct keys, stored, fit
+pub fits_with : (r new : Registers) (l : List Entry) → Fits r → new ≡ with_entries r l → distinct same_key l ≡ true → length l ≤ 256 → Fits new
+fits_with r new l f e d h = record {
+  room = omega (arith, ap (λ (r : Registers). r.count) e);
+  keys = ap (distinct same_key) (entries_by r l e) ∙ d;
+  sized = subst (λ (r : Registers). Sized r) (sym e) (sized_with r l f.sized h);
 }
 
-pub both_are : (k : InvolvedClassical) (s : List ℕ) (v : ℕ) (near far near' far' : Registers) → near' ≡ with_entries near (joined k s v near far).near
-    → far' ≡ with_entries far (joined k s v near far).far → BothBecome k s v near far near' far'
-both_are k s v near far near' far' a b =
-    let m : near'.count ≡ length (joined k s v near far).near = ap (λ (r : Registers). r.count) a in
-    let n : far'.count ≡ length (joined k s v near far).far = ap (λ (r : Registers). r.count) b in
-    record {
-      passes = rw (m, n) refl;
-      near_count = λ _. m;
-      far_count = λ _. n;
-      near_map = λ _. a;
-      far_map = λ _. b;
-    }
+module _ (r : Registers) (f : Fits r) where
+  module _ (key : RegisterKey) (v p : ℕ) (h : p < r.count) (s : StandsAt r key p) where
+    pub put_found : put (keyed key v) (entries_of r) ≡ set (entries_of r) p (keyed key v)
+    put_found = put-found (keyed key v) (entry 0 0 0) (entries_of r) p (rw (length_entries r) h) f.keys (key_there r key v p h s)
+
+    pub has_there : has_key (keyed key v) (entries_of r) ≡ true
+    has_there = at-any (same_key (keyed key v)) (entries_of r) (entry 0 0 0) p (rw (length_entries r) h) (key_there r key v p h s)
+
+    -- a key that stands
+    pub put_there : registers r.count r.name r.index (set r.node p v) ≡ with_entries r (put (keyed key v) (entries_of r))
+    put_there = with_set r f.sized f.room p (keyed key v) h s.0 s.1 ∙ ap (with_entries r) (sym put_found)
+
+    pub there_fits : Fits (registers r.count r.name r.index (set r.node p v))
+    there_fits = fits_with r _ _ f put_there (distinct-put (keyed key v) (entries_of r) f.keys)
+        (omega (arith, f.room, ap length put_found, length-set (entries_of r) p (keyed key v), length_entries r))
+
+  module _ (x : Entry) (new : has_key x (entries_of r) ≡ false) where
+    longer : length (put x (entries_of r)) ≡ r.count + 1
+    longer = length-put-new x (entries_of r) new ∙ ap (λ (n : ℕ). n + 1) (length_entries r)
+
+    -- no room for it
+    pub put_over : 256 ≤ r.count → 256 < length (put x (entries_of r))
+    put_over h = omega (arith, longer)
+
+    module _ (h : r.count < 256) where
+      -- a new key
+      pub put_behind : registers (r.count + 1) (set r.name r.count x.name) (set r.index r.count x.index) (set r.node r.count x.node)
+          ≡ with_entries r (put x (entries_of r))
+      put_behind = with_more r f.sized f.room x h ∙ ap (with_entries r) (sym (put-absent x (entries_of r) new))
+
+      pub behind_fits : Fits (registers (r.count + 1) (set r.name r.count x.name) (set r.index r.count x.index) (set r.node r.count x.node))
+      behind_fits = fits_with r _ _ f put_behind (distinct-put x (entries_of r) f.keys) (omega (arith, longer))
+
+-- ---- a map that keys are put into
+
+pub kept_own : (r : Registers) → Fits r → Kept r r
+kept_own r f = with_own r f.sized f.room
+
+-- more entries over those of a map
+pub kept_over : (old r new : Registers) (l : List Entry) → Kept old r → new ≡ with_entries r l → length (entries_of r) ≤ length l → new ≡ with_entries old l
+kept_over old r new l k e h = e ∙ ap (λ (r' : Registers). with_entries r' l) k ∙ with_with old (entries_of r) l h
+
+pub kept_put : (old r new : Registers) (x : Entry) → Kept old r → new ≡ with_entries r (put x (entries_of r)) → Kept old new
+kept_put old r new x k e = kept_over old r new (put x (entries_of r)) k e (put_grows x (entries_of r)) ∙ ap (with_entries old) (sym (entries_by r _ e))

@@ -1,17 +1,11 @@
--- What private functions promise: register maps lent as arrays, and what is left in them by the rules of Registers. Assumes nothing.
-use Rattle.std.specs.Prelude.{◌≡◌, Bool, true, false, cond, ◌||◌, List, [], ◌∷◌, map, ℕ, ◌<◌, ◌≤◌, eqb, ltb, length, get_or}
+-- What private functions promise of a register map: what is left in it by the rules of Registers. Assumes nothing.
+use Rattle.std.specs.Prelude.{◌≡◌, Bool, true, false, cond, List, [], ◌∷◌, map, ℕ, ◌<◌, ◌≤◌, eqb, length, get_or, Option, Result, MatchOption, MatchResult}
 use Rattle.file.specs.Lists.{count_from, keep}
-use Rattle.file.specs.declared.InvolvedClassical.{InvolvedClassical}
-use Rattle.file.specs.declared.InvolvedClassical.TheVariants.{None, All, AllQubits, Set, Definition}
 use Rattle.file.specs.declared.RegisterKey.{RegisterKey}
 use Rattle.graph.specs.declared.Registers.{Registers}
 use Rattle.graph.specs.Dag.{Entry, entry, entries_of}
 use Rattle.graph.specs.Soundness.{keys_distinct}
-use Rattle.registers.specs.Registers.{Maps, has_key, put, registers_by, with_entries}
-
--- the map made of a count and the arrays
-abbrev pub registers : ℕ → List ℕ → List ℕ → List ℕ → Registers
-registers c n i v = record { count = c; name = n; index = i; node = v }
+use Rattle.registers.specs.Registers.{Maps, has_key, put, with_entries, maps_pass}
 
 -- the entry of a key with node v
 abbrev pub keyed : RegisterKey → ℕ → Entry
@@ -30,43 +24,31 @@ pub record Fits (r : Registers) : Type 0 where
   pub sized : Sized r
 
 -- the key stands at position k
-abbrev pub StandsAt : List ℕ → List ℕ → RegisterKey → ℕ → Type 0
-StandsAt name index key k = (get_or name k 0 ≡ key.name) × (get_or index k 0 ≡ key.index)
+abbrev pub StandsAt : Registers → RegisterKey → ℕ → Type 0
+StandsAt r key k = (get_or r.name k 0 ≡ key.name) × (get_or r.index k 0 ≡ key.index)
 
--- p is the key's position among the first n, or n where it is absent
-pub record Found (n : ℕ) (name index : List ℕ) (key : RegisterKey) (p : ℕ) : Type 0 where
-  pub within : p ≤ n
-  pub there : p < n → StandsAt name index key p
-  pub missing : p ≡ n → (k : ℕ) → k < n → StandsAt name index key k → ⊥
+-- p is the key's position, None where it is absent
+abbrev pub Found : Registers → RegisterKey → Option ℕ → Type 0
+Found r key p = MatchOption p ((k : ℕ) → k < r.count → StandsAt r key k → ⊥) (λ k. (k < r.count) × StandsAt r key k)
 
 -- the map old became new, with the entries l; where there is no room for them (over 256) nothing is said but that
-pub record Becomes (old new : Registers) (l : List Entry) : Type 0 where
-  pub passes : ltb 256 new.count ≡ ltb 256 (length l)
-  pub kept : ltb 256 new.count ≡ false → new ≡ with_entries old l
-
--- "a register map would pass 256": one of the two
-abbrev pub pass : Registers → Registers → Bool
-pass near far = ltb 256 near.count || ltb 256 far.count
+abbrev pub Becomes : {A E : Type 0} → Result A E → Registers → Registers → List Entry → Type 0
+Becomes answer old new l = MatchResult answer (λ _. new ≡ with_entries old l) (λ _. 256 < length l)
 
 -- the two maps as lists
 abbrev pub maps_of : Registers → Registers → Maps
 maps_of near far = record { near = entries_of near; far = entries_of far }
 
--- what the rule makes of them
-abbrev pub joined : InvolvedClassical → List ℕ → ℕ → Registers → Registers → Maps
-joined k s v near far = registers_by k s v (maps_of near far)
-
--- the two maps became what the rule makes of them; where one passes 256 nothing is said but that
-pub record BothBecome (k : InvolvedClassical) (s : List ℕ) (v : ℕ) (near far near' far' : Registers) : Type 0 where
-  pub passes : pass near' far' ≡ (ltb 256 (length (joined k s v near far).near) || ltb 256 (length (joined k s v near far).far))
-  pub near_count : pass near' far' ≡ false → near'.count ≡ length (joined k s v near far).near
-  pub far_count : pass near' far' ≡ false → far'.count ≡ length (joined k s v near far).far
-  pub near_map : pass near' far' ≡ false → near' ≡ with_entries near (joined k s v near far).near
-  pub far_map : pass near' far' ≡ false → far' ≡ with_entries far (joined k s v near far).far
+-- the maps near and far became r; where one passes 256 nothing is said but that
+abbrev pub BothBecome : {A E : Type 0} → Result A E → Maps → Registers → Registers → Registers → Registers → Type 0
+BothBecome answer r near far near' far' = MatchResult answer
+    (λ _. (near' ≡ with_entries near r.near) × (far' ≡ with_entries far r.far))
+    (λ _. maps_pass r ≡ true)
 
 -- the same of the maps first and last: at the back last is near, at the front first
-pub record EndsBecome (front : Bool) (k : InvolvedClassical) (s : List ℕ) (v : ℕ) (first last first' last' : Registers) : Type 0 where
-  pub both : BothBecome k s v (cond front first last) (cond front last first) (cond front first' last') (cond front last' first')
+abbrev pub EndsBecome : {A E : Type 0} → Result A E → Bool → Maps → Registers → Registers → Registers → Registers → Type 0
+EndsBecome answer front r first last first' last' =
+    BothBecome answer r (cond front first last) (cond front last first) (cond front first' last') (cond front last' first')
 
 -- "a definition of length m sets 0 to m - 1": the k keys of the name n from index j on, all with node v ..
 abbrev pub definition : ℕ → ℕ → ℕ → ℕ → List Entry
@@ -77,11 +59,9 @@ unfoldable pub put_all : List Entry → List Entry → List Entry
 put_all [] l = l
 put_all (x ∷ xs) l = put_all xs (put x l)
 
--- the map new came from old by putting keys
-pub record Grown (old new : Registers) : Type 0 where
-  pub fits : Fits new
-  pub kept : new ≡ with_entries old (entries_of new)
-  pub grew : old.count ≤ new.count
+-- the map new is old with other entries: what stood behind them in the arrays stays
+abbrev pub Kept : Registers → Registers → Type 0
+Kept old new = new ≡ with_entries old (entries_of new)
 
 -- the marks tell which keys of a definition stand in the map, each with node v already
 pub record Marked (n m v : ℕ) (l : List Entry) (there : List Bool) : Type 0 where
@@ -90,18 +70,10 @@ pub record Marked (n m v : ℕ) (l : List Entry) (there : List Bool) : Type 0 wh
 
 -- the keys of a definition that stood have node v now, and are marked
 pub record Standing (n m v : ℕ) (old new : Registers) (there : List Bool) : Type 0 where
-  pub grown : Grown old new
+  pub kept : Kept old new
   pub same : put_all (definition n v m 0) (entries_of new) ≡ put_all (definition n v m 0) (entries_of old)
   pub marked : Marked n m v (entries_of new) there
 
 -- "only the keys of that name, all now v": what rule `take_name` leaves in the near map
 abbrev pub of_name : ℕ → ℕ → List Entry → List Entry
 of_name n v l = map (λ (x : Entry). entry n x.index v) (keep (λ x. eqb x.name n) l)
-
--- what the rule makes of one map, near or not, by that map alone: every record but a Set, which asks of the near map what the far one gets
-abbrev pub map_by : InvolvedClassical → Bool → ℕ → List Entry → List Entry
-map_by None near v l = l
-map_by (All n) near v l = cond near (of_name n v l) l
-map_by (AllQubits n) near v l = cond near (of_name n v l) l
-map_by (Set c) near v l = l
-map_by (Definition n m) near v l = put_all (definition n v m 0) l

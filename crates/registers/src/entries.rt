@@ -1,124 +1,170 @@
-// The register maps of a circuit, lent as plain arrays: entry i has the key (name[i], index[i]) and the node node[i]. The rules are
-// in specs/Registers.antt, what the functions answer in specs/RegisterMaps.antt.
-// `hints` says where a key may stand, a position below 256, so that a byte holds it. It is a guess: it is compared with
-// the key before use, and nothing is promised of it.
-ghost use Rattle.std.specs.Prelude.{◌≡◌, ◌++◌, ◌∷◌, [], ◌<◌, ◌≤◌, ◌+◌};
+// The register maps of a circuit while records are entered: entry i has the key (name[i], index[i]) and the node node[i]. The
+// rules are in specs/Registers.antt, what the methods answer in specs/RegisterMaps.antt.
+ghost use Rattle.std.specs.Prelude.{◌≡◌, false, not, ◌<◌, ◌≤◌, IsTrue, ◌↔◌, IfOk};
+ghost use Rattle.file.specs.Records.{front};
 ghost use Rattle.graph.specs.Dag.{entries_of};
 ghost use Rattle.file.specs.declared.InvolvedClassical.TheVariants.{Set};
-ghost use Rattle.registers.specs.Registers.{put, with_entries};
-ghost use Rattle.registers.specs.RegisterMaps.{registers, keyed, Sized, Fits, Found, Becomes, BothBecome, EndsBecome, Marked, Standing, put_all};
-ghost use Rattle.registers.specs.RegisterMaps.{definition, of_name, map_by};
+ghost use Rattle.registers.specs.Registers.{has_key, put, registers_by, registers_after, maps_after, with_entries};
+ghost use Rattle.registers.specs.RegisterMaps.{keyed, Fits, StandsAt, Found, Becomes, BothBecome, EndsBecome, Marked, Standing, put_all};
+ghost use Rattle.registers.specs.RegisterMaps.{definition, maps_of, of_name};
 
 use file::{InvolvedClassical, RegisterKey};
-use graph::NodeIndex;
+use graph::{NodeIndex, Registers};
+
+// A new key would be a map's 257th.
+#[derive(Clone, Copy)]
+pub(crate) struct NoRoom;
+
+// A register map and, for keys, where they may stand: a guess, compared with the key before use; nothing is promised of it.
+#[derive(Drop)]
+pub(crate) struct RegisterMap {
+    pub(crate) entries: Registers,
+    hints: [u8; 2048],
+    ghost fits: { Fits entries },
+}
 
 // The cell of a key's guess: names that differ modulo 8, with indices below 256, have cells of their own.
 fn hint_cell(key: RegisterKey) -> usize
     ensures { result < 2048 }
 {
-    ((key.name as usize) * 256 + (key.index as usize)) % 2048
+    (usize::from(key.name) * 256 + usize::from(key.index)) % 2048
 }
 
-// A guess, to index with. A call, since `hints[cell] as usize` would ask that the element fits.
-fn hint_place(hint: u8) -> usize
-    ensures { result ≡ hint }
-{
-    hint as usize
-}
-
-// The key's position among the entries, by comparing each.
-fn scan_keys(name: &[u8; 256], index: &[u16; 256], count: usize, key: RegisterKey) -> usize
-    requires { count ≤ 256 }
-    ensures { Found count name.now index.now key result }
-{
-    let mut i: usize = 0;
-    while i < count {
-        if name[i] == key.name {
-            if index[i] == key.index {
-                return i;
-            }
-        }
-        i += 1;
-    }
-    i
-}
-
-// The key's position, the count where it is absent.
-fn find_key(
-    name: &[u8; 256],
-    index: &[u16; 256],
-    hints: &[u8; 2048],
-    count: usize,
-    key: RegisterKey,
-) -> usize
-    requires { count ≤ 256 }
-    ensures { Found count name.now index.now key result }
-{
-    let cell = hint_cell(key);
-    let p = hint_place(hints[cell]);
-    if p < count {
-        if name[p] == key.name {
-            if index[p] == key.index {
-                return p;
-            }
+impl RegisterMap {
+    // A map with these entries, and no guesses.
+    pub(crate) fn of(entries: Registers) -> Self
+        requires { Fits entries }
+        ensures { result.entries ≡ entries }
+    {
+        RegisterMap {
+            entries,
+            hints: [0; 2048],
         }
     }
-    scan_keys(name, index, count, key)
-}
 
-// A new key behind the others: the new count.
-fn append_key(
-    name: &mut [u8; 256],
-    index: &mut [u16; 256],
-    node: &mut [u16; 256],
-    hints: &mut [u8; 2048],
-    count: usize,
-    key: RegisterKey,
-    v: NodeIndex,
-) -> usize
-    requires { (count < 256) × Sized (registers count name.old index.old node.old) }
-    ensures { registers result name.new index.new node.new
-        ≡ with_entries (registers count name.old index.old node.old)
-        (entries_of (registers count name.old index.old node.old) ++ (keyed key v.0 ∷ [])) }
-{
-    name[count] = key.name;
-    index[count] = key.index;
-    node[count] = v.0;
-    hints[hint_cell(key)] = count as u8;
-    count + 1
-}
-
-// The key becomes v: the new count, 257 where there is no room.
-fn put_key(
-    name: &mut [u8; 256],
-    index: &mut [u16; 256],
-    node: &mut [u16; 256],
-    hints: &mut [u8; 2048],
-    count: usize,
-    key: RegisterKey,
-    v: NodeIndex,
-) -> usize
-    requires { Fits (registers count name.old index.old node.old) }
-    ensures { Becomes (registers count name.old index.old node.old)
-        (registers result name.new index.new node.new)
-        (put (keyed key v.0) (entries_of (registers count name.old index.old node.old))) }
-{
-    let p = find_key(name, index, hints, count, key);
-    if p < count {
-        node[p] = v.0;
-        return count;
+    // Whether the key stands at position p. The index first: keys share names more than indices, so it tells them apart sooner.
+    fn stands_at(&self, p: usize, key: RegisterKey) -> bool
+        requires { p < 256 }
+        ensures { IsTrue result ↔ StandsAt self.now.entries key p }
+    {
+        self.entries.index[p] == key.index && self.entries.name[p] == key.name
     }
-    if 256 <= count {
-        return 257;
-    }
-    append_key(name, index, node, hints, count, key, v)
-}
 
-// The new counts of the two maps; over 256 where one has no room.
-#[derive(Clone, Copy)]
-struct RegisterCounts {
-    pub near: usize,
-    pub far: usize,
+    // The key's position.
+    fn find(&self, key: RegisterKey) -> Option<usize>
+        ensures { Found self.now.entries key result }
+    {
+        let guess = usize::from(self.hints[hint_cell(key)]);
+        if guess < self.entries.count && self.stands_at(guess, key) {
+            return Some(guess);
+        }
+        for p in 0..self.entries.count {
+            if self.stands_at(p, key) {
+                return Some(p);
+            }
+        }
+        None
+    }
+
+    // Whether there is no room for one more key.
+    fn is_full(&self) -> bool
+        ensures { IsTrue result ↔ 256 ≤ self.now.entries.count }
+    {
+        256 <= self.entries.count
+    }
+
+    // A new key behind the others.
+    fn append(&mut self, key: RegisterKey, v: NodeIndex)
+        requires room { self.old.entries.count < 256 }
+        requires is_new { has_key (keyed key v.0) (entries_of self.old.entries) ≡ false }
+        ensures { self.new.entries ≡ with_entries self.old.entries (put (keyed key v.0) (entries_of self.old.entries)) }
+    {
+        let n = self.entries.count;
+        self.entries.name[n] = key.name;
+        self.entries.index[n] = key.index;
+        self.entries.node[n] = v.0;
+        self.entries.count = n + 1;
+        self.hints[hint_cell(key)] = n as u8;
+    }
+
+    // The key becomes v: whether it is new.
+    fn put(&mut self, key: RegisterKey, v: NodeIndex) -> Result<bool, NoRoom>
+        ensures map { Becomes result self.old.entries self.new.entries (put (keyed key v.0) (entries_of self.old.entries)) }
+        ensures is_new { IfOk result (λ is_new. has_key (keyed key v.0) (entries_of self.old.entries) ≡ not is_new) }
+    {
+        if let Some(p) = self.find(key) {
+            self.entries.node[p] = v.0;
+            return Ok(false);
+        }
+        if self.is_full() {
+            return Err(NoRoom);
+        }
+        self.append(key, v);
+        Ok(true)
+    }
+
+    // Which of the keys 0 to m - 1 of the name stand; each of those becomes v.
+    fn mark(&mut self, name: u8, m: u16, v: NodeIndex) -> [bool; 256]
+        requires { m ≤ 256 }
+        ensures { Standing name m v.0 self.old.entries self.new.entries result }
+    {
+        let mut there = [false; 256];
+        for p in 0..self.entries.count {
+            if self.entries.name[p] == name && self.entries.index[p] < m {
+                self.entries.node[p] = v.0;
+                there[usize::from(self.entries.index[p])] = true;
+            }
+        }
+        there
+    }
+
+    // The keys 0 to m - 1 of the name that are not marked, behind the others.
+    fn append_unmarked(
+        &mut self,
+        there: &[bool; 256],
+        name: u8,
+        m: u16,
+        v: NodeIndex,
+    ) -> Result<(), NoRoom>
+        requires few { m ≤ 256 }
+        requires marked { Marked name m v.0 (entries_of self.old.entries) there.now }
+        ensures { Becomes result self.old.entries self.new.entries (put_all (definition name v.0 m 0) (entries_of self.old.entries)) }
+    {
+        for index in 0..m {
+            if !there[usize::from(index)] {
+                if self.is_full() {
+                    return Err(NoRoom);
+                }
+                self.append(RegisterKey { name, index }, v);
+            }
+        }
+        Ok(())
+    }
+
+    // A definition of length m: the keys 0 to m - 1 of the name become v. Not by a `put` of each: an absent key is compared with every entry.
+    fn define(&mut self, name: u8, m: u16, v: NodeIndex) -> Result<(), NoRoom>
+        ensures { Becomes result self.old.entries self.new.entries (put_all (definition name v.0 m 0) (entries_of self.old.entries)) }
+    {
+        if 256 < m {
+            return Err(NoRoom);
+        }
+        let there = self.mark(name, m, v);
+        self.append_unmarked(&there, name, m, v)
+    }
+
+    // All or AllQubits of a name: only the keys of the name stay, all now v. What stands behind them stays.
+    fn keep_name(&mut self, name: u8, v: NodeIndex)
+        ensures { self.new.entries ≡ with_entries self.old.entries (of_name name v.0 (entries_of self.old.entries)) }
+    {
+        let count = self.entries.count;
+        self.entries.count = 0;
+        for p in 0..count {
+            if self.entries.name[p] == name {
+                let index = self.entries.index[p];
+                self.append(RegisterKey { name, index }, v);
+            }
+        }
+    }
 }
 
 // A Set of c keys: each becomes v in the near map, and in the far map too if it was absent in the near one.
@@ -126,312 +172,58 @@ fn set_keys(
     part: &[u8],
     c: u8,
     v: NodeIndex,
-    near_name: &mut [u8; 256],
-    near_index: &mut [u16; 256],
-    near_node: &mut [u16; 256],
-    near_hints: &mut [u8; 2048],
-    near_count: usize,
-    far_name: &mut [u8; 256],
-    far_index: &mut [u16; 256],
-    far_node: &mut [u16; 256],
-    far_hints: &mut [u8; 2048],
-    far_count: usize,
-) -> RegisterCounts
-    requires { Fits (registers near_count near_name.old near_index.old near_node.old)
-        × Fits (registers far_count far_name.old far_index.old far_node.old) }
-    ensures { BothBecome (Set c) part.now v.0
-        (registers near_count near_name.old near_index.old near_node.old)
-        (registers far_count far_name.old far_index.old far_node.old)
-        (registers result.near near_name.new near_index.new near_node.new)
-        (registers result.far far_name.new far_index.new far_node.new) }
+    near: &mut RegisterMap,
+    far: &mut RegisterMap,
+) -> Result<(), NoRoom>
+    ensures { let r = registers_by (Set c) part.now v.0 (maps_of near.old.entries far.old.entries) in
+        BothBecome result r near.old.entries far.old.entries near.new.entries far.new.entries }
 {
-    let mut near = near_count;
-    let mut far = far_count;
-    let end = c as usize;
-    let mut k: usize = 0;
-    while k < end {
+    for k in 0..usize::from(c) {
         let key = file::register_key(part, k);
-        k += 1;
-        let n = put_key(near_name, near_index, near_node, near_hints, near, key, v);
-        if 256 < n {
-            return RegisterCounts { near: n, far: far };
-        }
-        // It grew: the key was absent.
-        let grew = near < n;
-        near = n;
-        if grew {
-            far = put_key(far_name, far_index, far_node, far_hints, far, key, v);
-            if 256 < far {
-                return RegisterCounts { near, far };
-            }
+        if near.put(key, v)? {
+            far.put(key, v)?;
         }
     }
-    RegisterCounts { near, far }
-}
-
-// Which of the keys 0 to m - 1 of the name stand; each of those becomes v.
-fn mark_keys(
-    name: &[u8; 256],
-    index: &[u16; 256],
-    node: &mut [u16; 256],
-    count: usize,
-    key_name: u8,
-    m: u16,
-    v: NodeIndex,
-) -> [bool; 256]
-    requires { Fits (registers count name.now index.now node.old) × (m ≤ 256) }
-    ensures { Standing key_name m v.0
-        (registers count name.now index.now node.old)
-        (registers count name.now index.now node.new) result }
-{
-    let mut there = [false; 256];
-    let mut p: usize = 0;
-    while p < count {
-        let at = p;
-        p += 1;
-        if name[at] == key_name {
-            let i = index[at];
-            if i < m {
-                node[at] = v.0;
-                there[file::to_index(i)] = true;
-            }
-        }
-    }
-    there
-}
-
-// The keys 0 to m - 1 of the name that are not marked, behind the others: the new count, 257 where there is no room.
-fn append_keys(
-    name: &mut [u8; 256],
-    index: &mut [u16; 256],
-    node: &mut [u16; 256],
-    hints: &mut [u8; 2048],
-    there: &[bool; 256],
-    count: usize,
-    key_name: u8,
-    m: u16,
-    v: NodeIndex,
-) -> usize
-    requires { Fits (registers count name.old index.old node.old) × (m ≤ 256)
-        × Marked key_name m v.0 (entries_of (registers count name.old index.old node.old)) there.now }
-    ensures { Becomes (registers count name.old index.old node.old)
-        (registers result name.new index.new node.new)
-        (put_all (definition key_name v.0 m 0) (entries_of (registers count name.old index.old node.old))) }
-{
-    let mut n = count;
-    let mut j: u16 = 0;
-    while j < m {
-        let i = j;
-        j += 1;
-        let known = there[file::to_index(i)];
-        if !known {
-            if 256 <= n {
-                return 257;
-            }
-            let key = RegisterKey {
-                name: key_name,
-                index: i,
-            };
-            n = append_key(name, index, node, hints, n, key, v);
-        }
-    }
-    n
-}
-
-// A definition of length m, in one map: the keys 0 to m - 1 of the name become v. The new count, 257 where there is no room.
-fn define_keys(
-    name: &mut [u8; 256],
-    index: &mut [u16; 256],
-    node: &mut [u16; 256],
-    hints: &mut [u8; 2048],
-    count: usize,
-    key_name: u8,
-    m: u16,
-    v: NodeIndex,
-) -> usize
-    requires { Fits (registers count name.old index.old node.old) }
-    ensures { Becomes (registers count name.old index.old node.old)
-        (registers result name.new index.new node.new)
-        (put_all (definition key_name v.0 m 0) (entries_of (registers count name.old index.old node.old))) }
-{
-    if 256 < m {
-        return 257;
-    }
-    let there = mark_keys(name, index, node, count, key_name, m, v);
-    append_keys(name, index, node, hints, &there, count, key_name, m, v)
-}
-
-// All or AllQubits of a name: only the keys of the name stay, all now v. The new count; what stands after it stays.
-fn keep_name(
-    name: &mut [u8; 256],
-    index: &mut [u16; 256],
-    node: &mut [u16; 256],
-    hints: &mut [u8; 2048],
-    count: usize,
-    key_name: u8,
-    v: NodeIndex,
-) -> usize
-    requires { Fits (registers count name.old index.old node.old) }
-    ensures { registers result name.new index.new node.new
-        ≡ with_entries (registers count name.old index.old node.old)
-        (of_name key_name v.0 (entries_of (registers count name.old index.old node.old))) }
-{
-    let mut n: usize = 0;
-    let mut p: usize = 0;
-    while p < count {
-        let from = p;
-        p += 1;
-        if name[from] == key_name {
-            let key = RegisterKey {
-                name: key_name,
-                index: index[from],
-            };
-            n = append_key(name, index, node, hints, n, key, v);
-        }
-    }
-    n
-}
-
-// What a record that became node v does to one register map, near or not; a Set is for both maps at once, and does nothing here.
-fn join_map(
-    classical: InvolvedClassical,
-    near: bool,
-    v: NodeIndex,
-    name: &mut [u8; 256],
-    index: &mut [u16; 256],
-    node: &mut [u16; 256],
-    hints: &mut [u8; 2048],
-    count: usize,
-) -> usize
-    requires { Fits (registers count name.old index.old node.old) }
-    ensures { Becomes (registers count name.old index.old node.old)
-        (registers result name.new index.new node.new)
-        (map_by classical near v.0 (entries_of (registers count name.old index.old node.old))) }
-{
-    match classical {
-        InvolvedClassical::None | InvolvedClassical::Set(_) => count,
-        InvolvedClassical::All(n) | InvolvedClassical::AllQubits(n) => {
-            if near {
-                keep_name(name, index, node, hints, count, n, v)
-            } else {
-                count
-            }
-        }
-        InvolvedClassical::Definition(n, m) => {
-            define_keys(name, index, node, hints, count, n, m, v)
-        }
-    }
+    Ok(())
 }
 
 // What a record that became node v does to the register maps, near being the one at the end of the insertion.
 fn enter_maps(
     part: &[u8],
-    classical: InvolvedClassical,
     v: NodeIndex,
-    near_name: &mut [u8; 256],
-    near_index: &mut [u16; 256],
-    near_node: &mut [u16; 256],
-    near_hints: &mut [u8; 2048],
-    near_count: usize,
-    far_name: &mut [u8; 256],
-    far_index: &mut [u16; 256],
-    far_node: &mut [u16; 256],
-    far_hints: &mut [u8; 2048],
-    far_count: usize,
-) -> RegisterCounts
-    requires { Fits (registers near_count near_name.old near_index.old near_node.old)
-        × Fits (registers far_count far_name.old far_index.old far_node.old) }
-    ensures { BothBecome classical part.now v.0
-        (registers near_count near_name.old near_index.old near_node.old)
-        (registers far_count far_name.old far_index.old far_node.old)
-        (registers result.near near_name.new near_index.new near_node.new)
-        (registers result.far far_name.new far_index.new far_node.new) }
+    near: &mut RegisterMap,
+    far: &mut RegisterMap,
+) -> Result<(), NoRoom>
+    ensures { let r = registers_after part.now v.0 (maps_of near.old.entries far.old.entries) in
+        BothBecome result r near.old.entries far.old.entries near.new.entries far.new.entries }
 {
-    if let InvolvedClassical::Set(c) = classical {
-        return set_keys(
-            part, c, v, near_name, near_index, near_node, near_hints, near_count, far_name,
-            far_index, far_node, far_hints, far_count,
-        );
+    match file::involved_classical(part) {
+        InvolvedClassical::None => Ok(()),
+        InvolvedClassical::All(name) | InvolvedClassical::AllQubits(name) => {
+            near.keep_name(name, v);
+            Ok(())
+        }
+        InvolvedClassical::Set(c) => set_keys(part, c, v, near, far),
+        InvolvedClassical::Definition(name, m) => {
+            near.define(name, m, v)?;
+            far.define(name, m, v)
+        }
     }
-    let near = join_map(
-        classical, true, v, near_name, near_index, near_node, near_hints, near_count,
-    );
-    let far = join_map(
-        classical, false, v, far_name, far_index, far_node, far_hints, far_count,
-    );
-    RegisterCounts { near, far }
-}
-
-// The new counts of the maps first and last; over 256 where one has no room.
-#[derive(Clone, Copy)]
-pub(crate) struct EndCounts {
-    pub first: usize,
-    pub last: usize,
 }
 
 // What a record that became node v does to the register maps: at the back last is near, at the front first.
 pub(crate) fn enter_record(
-    front: bool,
     part: &[u8],
-    classical: InvolvedClassical,
     v: NodeIndex,
-    first_name: &mut [u8; 256],
-    first_index: &mut [u16; 256],
-    first_node: &mut [u16; 256],
-    first_hints: &mut [u8; 2048],
-    first_count: usize,
-    last_name: &mut [u8; 256],
-    last_index: &mut [u16; 256],
-    last_node: &mut [u16; 256],
-    last_hints: &mut [u8; 2048],
-    last_count: usize,
-) -> EndCounts
-    requires { Fits (registers first_count first_name.old first_index.old first_node.old)
-        × Fits (registers last_count last_name.old last_index.old last_node.old) }
-    ensures { EndsBecome front classical part.now v.0
-        (registers first_count first_name.old first_index.old first_node.old)
-        (registers last_count last_name.old last_index.old last_node.old)
-        (registers result.first first_name.new first_index.new first_node.new)
-        (registers result.last last_name.new last_index.new last_node.new) }
+    first: &mut RegisterMap,
+    last: &mut RegisterMap,
+) -> Result<(), NoRoom>
+    ensures { let r = maps_after part.now v.0 first.old.entries last.old.entries in
+        EndsBecome result (front part.now) r first.old.entries last.old.entries first.new.entries last.new.entries }
 {
-    if front {
-        let n = enter_maps(
-            part,
-            classical,
-            v,
-            first_name,
-            first_index,
-            first_node,
-            first_hints,
-            first_count,
-            last_name,
-            last_index,
-            last_node,
-            last_hints,
-            last_count,
-        );
-        return EndCounts {
-            first: n.near,
-            last: n.far,
-        };
-    }
-    let n = enter_maps(
-        part,
-        classical,
-        v,
-        last_name,
-        last_index,
-        last_node,
-        last_hints,
-        last_count,
-        first_name,
-        first_index,
-        first_node,
-        first_hints,
-        first_count,
-    );
-    EndCounts {
-        first: n.far,
-        last: n.near,
+    if file::is_front(part) {
+        enter_maps(part, v, first, last)
+    } else {
+        enter_maps(part, v, last, first)
     }
 }

@@ -5,7 +5,7 @@
 mod entries;
 mod maps;
 
-use file::Outcome;
+use file::Refusal;
 use graph::Registers;
 use links::LinkedRecords;
 pub use maps::{register_record, register_records};
@@ -14,7 +14,7 @@ pub use maps::{register_record, register_records};
 #[derive(Clone, Copy)]
 pub struct Registered {
     pub accepted: usize,
-    pub answer: Outcome,
+    pub answer: Result<(), Refusal>,
     pub first: Registers,
     pub last: Registers,
 }

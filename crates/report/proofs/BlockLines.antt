@@ -20,14 +20,10 @@ use Rattle.queries.specs.Reach.{blocking}
 use Rattle.file.proofs.BoolLaws.{not-true, eqb-flip}
 use Rattle.graph.proofs.ListLaws.{member_marked, member-up_to, member-keep}
 use Rattle.queries.proofs.ReachLaws.{keep_same}
-use Rattle.file.specs.declared.Outcome.{Outcome}
-use Rattle.file.specs.declared.Outcome.TheVariants.{Done, Refused as NotLoaded}
 use Rattle.insertion.specs.declared.Loaded.{Loaded}
-use Rattle.links.specs.Links.{LoadingRule}
+use Rattle.links.specs.declared.LoadingRule.{LoadingRule}
 use Rattle.insertion.specs.Load.{load_by}
 use Rattle.walk.specs.declared.ParallelBlocks.{ParallelBlocks}
-use Rattle.walk.specs.declared.BlockCount.{BlockCount}
-use Rattle.walk.specs.declared.BlockCount.TheVariants.{Blocks, Refused as NotWalked}
 use Rattle.walk.specs.Blocks.{unstarted, joined, followers, blocks, Walked, whole_walk, state_after, block_of_step}
 use Rattle.walk.specs.Steps.{Iterated}
 use Rattle.walk.proofs.BlockSteps.{sound-within}
@@ -39,6 +35,7 @@ use Rattle.schedule.proofs.ScheduleLaws.{walks, refuses, size_loaded, sound_load
 use Rattle.report.specs.Lines.{in_block, lines_by, numbers_text}
 use Rattle.report.specs.Text.{decimal, line_text, lines_text, count_text, blocks_text, refused_text, loaded_text, file_text_by, text_of}
 use Rattle.report.proofs.TextLaws.{digits_few, stored, then_text, stored_as}
+use Rattle.std.specs.Prelude.{Result, Ok, Err, ⊤}
 
 and_here : (a b : Bool) → b ≡ true → (a && b) ≡ a
 and_here true b h = h
@@ -90,7 +87,7 @@ module _ (g : CircuitDag) (s : sound g ≡ true) where
     blocks_lines : lines_by numbers n (length (blocks g)) 0 ≡ lines_text 0 (blocks g)
     blocks_lines = lines_same (blocks g) 0 (λ i h. let z : i ≡ 0 + i = omega arith in block-numbered i h ∙ ap (in_block numbers n) z)
 
-    walk_count : (r : BlockCount) (written : List ℕ) → record { answer = r; buffer = written } ≡ whole_walk g buffer → r ≡ Blocks (length (blocks g))
+    walk_count : (r : Result ℕ Refusal) (written : List ℕ) → record { answer = r; buffer = written } ≡ whole_walk g buffer → r ≡ Ok (length (blocks g))
     walk_count r written e = ap (λ (x : Walked). x.answer) e ∙ I.count
 
     walk_few : length (blocks g) ≤ n
@@ -119,27 +116,27 @@ count_short n = omega (arith, digits_few 20 n, length-append (decimal n) (10 ∷
 
 -- ---- the whole text
 
-loaded_done : (x : Loaded) → x.answer ≡ Done → loaded_text x ≡ blocks_text x.graph
-loaded_done x e = ap (λ (a : Outcome). loaded_text (record { answer = a; graph = x.graph })) e
+loaded_done : (x : Loaded) → x.answer ≡ Ok tt → loaded_text x ≡ blocks_text x.graph
+loaded_done x e = ap (λ (a : Result ⊤ Refusal). loaded_text (record { answer = a; graph = x.graph })) e
 
-loaded_refused : (x : Loaded) (r : Refusal) → x.answer ≡ NotLoaded r → loaded_text x ≡ refused_text r
-loaded_refused x r e = ap (λ (a : Outcome). loaded_text (record { answer = a; graph = x.graph })) e
+loaded_refused : (x : Loaded) (r : Refusal) → x.answer ≡ Err r → loaded_text x ≡ refused_text r
+loaded_refused x r e = ap (λ (a : Result ⊤ Refusal). loaded_text (record { answer = a; graph = x.graph })) e
 
 -- a file whose schedule, in an array of 512 entries, has the answer r and the numbers `written`
 module _ (rule : LoadingRule) (s : List ℕ) (bytes : (i : ℕ) → get_or s i 0 < 256) (buffer : List ℕ) (b : buffer ≡ replicate 512 65535)
-    (r : BlockCount) (written : List ℕ) (w : record { answer = r; buffer = written } ≡ schedule_by rule s buffer) where
+    (r : Result ℕ Refusal) (written : List ℕ) (w : record { answer = r; buffer = written } ≡ schedule_by rule s buffer) where
   long : length buffer ≡ 512
   long = ap length b ∙ length-replicate {A = ℕ} 512 65535
 
-  module _ (k : ℕ) (e : r ≡ Blocks k) where
+  module _ (k : ℕ) (e : r ≡ Ok k) where
     -- it loads
-    done : (load_by rule s).answer ≡ Done
+    done : (load_by rule s).answer ≡ Ok tt
     done = go (load_by rule s).answer refl
       where
-        go : (a : Outcome) → (load_by rule s).answer ≡ a → a ≡ Done
-        go Done d = refl
-        go (NotLoaded c) d =
-            let t : r ≡ NotWalked c = ap (λ (x : Walked). x.answer) (w ∙ sym (refuses rule s buffer (load_by rule s) refl c d)) in
+        go : (a : Result ⊤ Refusal) → (load_by rule s).answer ≡ a → a ≡ Ok tt
+        go (Ok _) d = refl
+        go (Err c) d =
+            let t : r ≡ Err c = ap (λ (x : Walked). x.answer) (w ∙ sym (refuses rule s buffer (load_by rule s) refl c d)) in
             let z : ◌≡◌ {A = ℕ} 0 1 = cc in
             absurd (omega arith)
 
@@ -172,8 +169,8 @@ module _ (rule : LoadingRule) (s : List ℕ) (bytes : (i : ℕ) → get_or s i 0
 
   pub refusal_text : (c : Refusal) → NotScheduledBy rule s buffer c written → refused_text c ≡ file_text_by rule s
   refusal_text c n = ⊎_elim
-      (λ (d : (load_by rule s).answer ≡ NotLoaded c). sym (loaded_refused (load_by rule s) c d))
-      (λ (d : ((load_by rule s).answer ≡ Done) × (c ≡ ShortBuffer) × (length buffer < count_of s)).
+      (λ (d : (load_by rule s).answer ≡ Err c). sym (loaded_refused (load_by rule s) c d))
+      (λ (d : ((load_by rule s).answer ≡ Ok tt) × (c ≡ ShortBuffer) × (length buffer < count_of s)).
       let f = size_loaded rule s bytes d.0 in
       absurd (omega (arith, f, long, d.2, (sound-within (load_by rule s).graph (sound_loaded rule s bytes d.0)).cap)))
       n.cause

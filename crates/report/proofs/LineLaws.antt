@@ -14,12 +14,11 @@ use Rattle.graph.specs.Dag.{absent}
 use Rattle.file.proofs.PutLaws.{length-count_from}
 use Rattle.graph.proofs.ListLaws.{any_default}
 use Rattle.file.specs.declared.Refusal.{Refusal}
-use Rattle.file.specs.declared.RefusalValue.{RefusalValue}
-use Rattle.file.specs.declared.RefusalValue.TheVariants.{Nothing, At}
 use Rattle.file.specs.Refusals.{number_of, value_of}
 use Rattle.report.specs.Text.{decimal, nodes_text, line_text, count_text, at_text, refused_text}
 use Rattle.report.specs.Lines.{in_block, lines_by}
 use Rattle.report.proofs.TextLaws.{sets_append, digits_3, digits_few, Stored, stored_as}
+use Rattle.std.specs.Prelude.{Option, Some, None}
 
 -- ---- one node
 
@@ -248,7 +247,7 @@ count_text_lem n p old now S =
     let r = stored_as S (count_text n) (append_assoc (98 ∷ 108 ∷ 111 ∷ 99 ∷ 107 ∷ 115 ∷ 32 ∷ []) (decimal n) (10 ∷ [])) in
     (r.0 ∙ plain (length (count_text n)), r.1)
 
-pub refused_text_lem : (r : Refusal) (n : ℕ) (v : RefusalValue) (p : ℕ) (old now : List ℕ) → n ≡ number_of r → v ≡ value_of r
+pub refused_text_lem : (r : Refusal) (n : ℕ) (v : Option ℕ) (p : ℕ) (old now : List ℕ) → n ≡ number_of r → v ≡ value_of r
     → Stored old 0 ((((114 ∷ 101 ∷ 102 ∷ 117 ∷ 115 ∷ 101 ∷ 100 ∷ 32 ∷ []) ++ decimal n) ++ at_text v) ++ (10 ∷ [])) p now
     → (p ≡ length (refused_text r)) × (now ≡ sets old 0 (refused_text r))
 unfolding refused_text
@@ -258,9 +257,9 @@ refused_text_lem r n v p old now e f S =
     let x = stored_as S (refused_text r) same in
     (x.0 ∙ plain (length (refused_text r)), x.1)
 
-pub at_short : (v : RefusalValue) → length (at_text v) ≤ 24
-at_short Nothing = omega arith
-at_short (At i) = omega (arith, digits_few 20 i)
+pub at_short : (v : Option ℕ) → length (at_text v) ≤ 24
+at_short None = omega arith
+at_short (Some i) = omega (arith, digits_few 20 i)
 
-pub refused_short : (n : ℕ) (v : RefusalValue) (a b e : ℕ) → a ≡ 8 → b ≡ a + length (decimal n) → e ≡ b + length (at_text v) → e + 1 ≤ 5120
+pub refused_short : (n : ℕ) (v : Option ℕ) (a b e : ℕ) → a ≡ 8 → b ≡ a + length (decimal n) → e ≡ b + length (at_text v) → e + 1 ≤ 5120
 refused_short n v a b e p q r = omega (arith, p, q, r, digits_few 20 n, at_short v)

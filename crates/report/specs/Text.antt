@@ -1,14 +1,12 @@
 -- The programs `blocks` and `blocks_both_ends`: the bytes that they print for a file. Assumes nothing.
-use Rattle.std.specs.Prelude.{cond, List, [], ◌∷◌, ◌++◌, ℕ, zero, suc, ◌+◌, ◌/◌, ◌%◌, ltb, length, replicate}
+use Rattle.std.specs.Prelude.{cond, List, [], ◌∷◌, ◌++◌, ℕ, zero, suc, ◌+◌, ◌/◌, ◌%◌, ltb, length, replicate, Option, Ok, Err, Some, None}
 use Rattle.file.specs.Lists.{onto}
 use Rattle.file.specs.declared.Refusal.{Refusal}
-use Rattle.file.specs.declared.RefusalValue.{RefusalValue}
-use Rattle.file.specs.declared.RefusalValue.TheVariants.{Nothing, At}
 use Rattle.file.specs.Refusals.{number_of, value_of}
 use Rattle.graph.specs.declared.CircuitDag.{CircuitDag}
-use Rattle.file.specs.declared.Outcome.TheVariants.{Done, Refused}
 use Rattle.insertion.specs.declared.Loaded.{Loaded}
-use Rattle.links.specs.Links.{LoadingRule, NearAll}
+use Rattle.links.specs.declared.LoadingRule.{LoadingRule}
+use Rattle.links.specs.declared.LoadingRule.TheVariants.{NearAll}
 use Rattle.insertion.specs.Load.{load_by}
 use Rattle.walk.specs.Blocks.{blocks}
 use Rattle.report.specs.declared.Text.{Text}
@@ -45,9 +43,9 @@ abbrev pub blocks_text : CircuitDag → List ℕ
 blocks_text g = count_text (length (blocks g)) ++ lines_text 0 (blocks g)
 
 -- "with ` at I` where the table has a record or pair"
-abbrev pub at_text : RefusalValue → List ℕ
-at_text Nothing = []
-at_text (At i) = 32 ∷ 97 ∷ 116 ∷ 32 ∷ decimal i
+abbrev pub at_text : Option ℕ → List ℕ
+at_text None = []
+at_text (Some i) = 32 ∷ 97 ∷ 116 ∷ 32 ∷ decimal i
 
 -- "A refusal prints `refused N`, with ` at I` where the table has a record or pair."
 unfoldable pub refused_text : Refusal → List ℕ
@@ -55,7 +53,7 @@ refused_text r = 114 ∷ 101 ∷ 102 ∷ 117 ∷ 115 ∷ 101 ∷ 100 ∷ 32 ∷ 
 
 -- what a load's outcome prints
 abbrev pub loaded_text : Loaded → List ℕ
-loaded_text x = elim x.answer [ Done ↦ blocks_text x.graph | Refused r ↦ refused_text r ]
+loaded_text x = elim x.answer [ Ok _ ↦ blocks_text x.graph | Err r ↦ refused_text r ]
 
 -- what a program that loads a file in either way prints for the bytes s
 abbrev pub file_text_by : LoadingRule → List ℕ → List ℕ

@@ -6,10 +6,9 @@ ghost use Rattle.report.specs.Lines.{in_block, lines_by, numbers_text};
 ghost use Rattle.report.specs.Text.{digits, nodes_text, line_text, count_text, at_text, refused_text, file_text_by, file_text, text_of};
 
 use crate::Text;
-use file::{Refusal, RefusalValue};
+use file::Refusal;
 use graph::NodeIndex;
 use links::LoadingRule;
-use walk::BlockCount;
 
 // The character of a digit.
 fn digit(d: usize) -> u8
@@ -158,15 +157,15 @@ fn write_blocks(numbers: &[u16], n: usize, count: usize, out: &mut [u8]) -> usiz
 }
 
 // "with ` at I` where the table has a record or pair"
-fn write_value(value: RefusalValue, out: &mut [u8], at: usize) -> usize
+fn write_value(value: Option<usize>, out: &mut [u8], at: usize) -> usize
     requires at_in_bounds { at + 24 ≤ length out.old }
     requires out_len_bound { length out.old ≤ 5120 }
     ensures value { result ≡ at + length (at_text value) }
     ensures out_after { out.new ≡ sets out.old at (at_text value) }
 {
     match value {
-        RefusalValue::Nothing => at,
-        RefusalValue::At(i) => {
+        None => at,
+        Some(i) => {
             let from = write_bytes(b" at ", out, at);
             write_digits(20, i, out, from)
         }
@@ -204,8 +203,8 @@ pub fn blocks_text_by(rule: LoadingRule, file: &[u8]) -> Text
     let n = file::record_count(file);
     let mut bytes = blank();
     let length = match counted {
-        BlockCount::Blocks(count) => write_blocks(&numbers, n, count, &mut bytes),
-        BlockCount::Refused(r) => write_refusal(r, &mut bytes),
+        Ok(count) => write_blocks(&numbers, n, count, &mut bytes),
+        Err(r) => write_refusal(r, &mut bytes),
     };
     Text { length, bytes }
 }
@@ -215,5 +214,5 @@ pub fn blocks_text(file: &[u8]) -> Text
     ensures value { result ≡ text_of (file_text file.now) }
     ensures length_in_bounds { result.length ≤ length result.bytes }
 {
-    blocks_text_by(links::NEAR_ALL, file)
+    blocks_text_by(LoadingRule::NearAll, file)
 }

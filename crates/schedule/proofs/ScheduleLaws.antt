@@ -14,10 +14,7 @@ use borrow.Author.Tests.{eq-eqb, lt-ltb}
 use Rattle.file.specs.Lists.{all_of, any_of, keep, is_empty, member, count_from, up_to}
 use Rattle.file.specs.Pairs.{count_of, part_of, pair_place, record_at, records_of}
 use Rattle.file.specs.declared.Place.{Place}
-use Rattle.file.specs.declared.Place.TheVariants.{At, Refused as NotThere}
 use Rattle.file.specs.Records.{front}
-use Rattle.file.specs.declared.Outcome.{Outcome}
-use Rattle.file.specs.declared.Outcome.TheVariants.{Done, Refused as NotLoaded}
 use Rattle.file.specs.declared.Refusal.{Refusal}
 use Rattle.file.specs.declared.Refusal.TheVariants.{ShortBuffer}
 use Rattle.file.proofs.BoolLaws.{bool_cases, clash_bool}
@@ -26,18 +23,15 @@ use Rattle.graph.specs.Dag.{empty, size}
 use Rattle.graph.specs.Soundness.{sound}
 use Rattle.file.proofs.PutLaws.{length-count_from}
 use Rattle.graph.proofs.ListLaws.{at_all, up_to_all, map_at}
-use Rattle.insertion.specs.declared.Answer.{Answer}
-use Rattle.insertion.specs.declared.Answer.TheVariants.{Node, Refused as NotInserted}
 use Rattle.insertion.specs.declared.Loaded.{Loaded}
-use Rattle.links.specs.Links.{LoadingRule, NearAll, FarAll}
+use Rattle.links.specs.declared.LoadingRule.{LoadingRule}
+use Rattle.links.specs.declared.LoadingRule.TheVariants.{NearAll, FarAll}
 use Rattle.insertion.specs.Limits.{accepts, insert_by}
 use Rattle.insertion.specs.Load.{load_by}
 use Rattle.insertion.specs.Calls.{Call, graph_after, all_by, final_by}
 use Rattle.insertion.specs.Built.{Inserts}
 use Rattle.insertion.proofs.BuiltLaws.{sound-built}
 use Rattle.insertion.proofs.BuiltLoads.{load_inserts}
-use Rattle.walk.specs.declared.BlockCount.{BlockCount}
-use Rattle.walk.specs.declared.BlockCount.TheVariants.{Blocks, Refused}
 use Rattle.walk.specs.Blocks.{Walked, whole_walk, blocks, block_of_step}
 use Rattle.guarantee.specs.Guarantee.{Accepted, accepted_from, accepted, takes_qubits, takes_all, operations, Each, Orders, different}
 use Rattle.guarantee.specs.Guarantee.{filled, Guarantee}
@@ -47,25 +41,27 @@ use Rattle.walk.proofs.BlockLaws.{past_last}
 use Rattle.guarantee.proofs.DemandLaws.{demand_3, both_ends}
 use Rattle.walk.proofs.WholeLaws.{walk_short, walk_done}
 use Rattle.schedule.specs.Schedule.{walk_loaded, schedule_by, placed_from, placed, pulses, Meets, block_in, ScheduledBy, NotScheduledBy, SameNumbers}
+use Rattle.graph.specs.declared.NodeIndex.{NodeIndex}
+use Rattle.std.specs.Prelude.{Result, Ok, Err, ⊤}
 
 -- ---- by the load's answer
 
 module _ (rule : LoadingRule) (s buffer : List ℕ) (x : Loaded) (e : x ≡ load_by rule s) where
-  by_answer : (a : Outcome) → x.answer ≡ a → walk_loaded (record { answer = a; graph = x.graph }) buffer ≡ schedule_by rule s buffer
+  by_answer : (a : Result ⊤ Refusal) → x.answer ≡ a → walk_loaded (record { answer = a; graph = x.graph }) buffer ≡ schedule_by rule s buffer
   unfolding schedule_by
-  by_answer a d = ap (λ (b : Outcome). walk_loaded (record { answer = b; graph = x.graph }) buffer) (sym d) ∙ ap (λ (y : Loaded). walk_loaded y buffer) e
+  by_answer a d = ap (λ (b : Result ⊤ Refusal). walk_loaded (record { answer = b; graph = x.graph }) buffer) (sym d) ∙ ap (λ (y : Loaded). walk_loaded y buffer) e
 
-  pub walks : x.answer ≡ Done → whole_walk x.graph buffer ≡ schedule_by rule s buffer
-  walks d = by_answer Done d
+  pub walks : x.answer ≡ Ok tt → whole_walk x.graph buffer ≡ schedule_by rule s buffer
+  walks d = by_answer (Ok tt) d
 
-  pub refuses : (c : Refusal) → x.answer ≡ NotLoaded c → record { answer = Refused c; buffer = buffer } ≡ schedule_by rule s buffer
-  refuses c d = by_answer (NotLoaded c) d
+  pub refuses : (c : Refusal) → x.answer ≡ Err c → record { answer = Err c; buffer = buffer } ≡ schedule_by rule s buffer
+  refuses c d = by_answer (Err c) d
 
 -- ---- the records of a file that loads
 
-goes : (a : Answer) (o : Accepted) (l m : List Accepted) → accepts a ≡ true → (elim a [ Node v ↦ o ∷ l | NotInserted r ↦ m ]) ≡ o ∷ l
-goes (Node v) o l m h = refl
-goes (NotInserted r) o l m h = absurd (clash_bool h refl)
+goes : (a : Result NodeIndex Refusal) (o : Accepted) (l m : List Accepted) → accepts a ≡ true → (elim a [ Ok v ↦ o ∷ l | Err r ↦ m ]) ≡ o ∷ l
+goes (Ok v) o l m h = refl
+goes (Err r) o l m h = absurd (clash_bool h refl)
 
 -- where each insertion is accepted, the accepted records are all of them
 all_accepted : (rule : LoadingRule) (g : CircuitDag) (b f : ℕ) (l : List (List ℕ))
@@ -96,14 +92,14 @@ each_of P Q f [] h = tt
 each_of P Q f (o ∷ l) h = (f o h.0, each_of P Q f l h.1)
 
 -- a part of bytes is bytes
-part_bytes : (s : List ℕ) → ((i : ℕ) → get_or s i 0 < 256) → (p : Place) → all_of (λ b. ltb b 256) (part_of p s) ≡ true
+part_bytes : (s : List ℕ) → ((i : ℕ) → get_or s i 0 < 256) → (p : Result Place Refusal) → all_of (λ b. ltb b 256) (part_of p s) ≡ true
 unfolding all_of
-part_bytes s h (At o n) = at_all (λ b. ltb b 256) (take n (drop o s)) 0 (λ i l.
-    let k : i < n = omega (arith, length-take n (drop o s)) in
-    lt-ltb _ 256 (subst (λ (x : ℕ). x < 256) (sym (get_or-take n (drop o s) i 0 k ∙ get_or-drop o s i 0)) (h (o + i))))
-part_bytes s h (NotThere r) = refl
+part_bytes s h (Ok p) = at_all (λ b. ltb b 256) (take p.length (drop p.offset s)) 0 (λ i l.
+    let k : i < p.length = omega (arith, length-take p.length (drop p.offset s)) in
+    lt-ltb _ 256 (subst (λ (x : ℕ). x < 256) (sym (get_or-take p.length (drop p.offset s) i 0 k ∙ get_or-drop p.offset s i 0)) (h (p.offset + i))))
+part_bytes s h (Err r) = refl
 
-module _ (rule : LoadingRule) (s : List ℕ) (bytes : (i : ℕ) → get_or s i 0 < 256) (done : (load_by rule s).answer ≡ Done) where
+module _ (rule : LoadingRule) (s : List ℕ) (bytes : (i : ℕ) → get_or s i 0 < 256) (done : (load_by rule s).answer ≡ Ok tt) where
   abbrev l : List (List ℕ)
   l = records_of s
 
@@ -146,25 +142,25 @@ module _ (rule : LoadingRule) (s : List ℕ) (bytes : (i : ℕ) → get_or s i 0
     walk_is : schedule_by rule s buffer ≡ whole_walk (load_by rule s).graph buffer
     walk_is = sym (walks rule s buffer (load_by rule s) refl done)
 
-    short_refused : length buffer < count_of s → schedule_by rule s buffer ≡ record { answer = Refused ShortBuffer; buffer = buffer }
+    short_refused : length buffer < count_of s → schedule_by rule s buffer ≡ record { answer = Err ShortBuffer; buffer = buffer }
     short_refused h = walk_is ∙ sym (walk_short _ _ sound_loaded (omega (arith, h, size_loaded)))
 
     module _ (room : count_of s ≤ length buffer) where
       fits : size (load_by rule s).graph ≤ length buffer
       fits = omega (arith, room, size_loaded)
 
-      answer_is : (schedule_by rule s buffer).answer ≡ Blocks (length (blocks (load_by rule s).graph))
+      answer_is : (schedule_by rule s buffer).answer ≡ Ok (length (blocks (load_by rule s).graph))
       answer_is = ap (λ (x : Walked). x.answer) (walk_is ∙ walk_done (load_by rule s).graph sound_loaded buffer fits)
 
-      module _ (k : ℕ) (numbers : List ℕ) (w : record { answer = Blocks k; buffer = numbers } ≡ schedule_by rule s buffer) (G : Guarantee calls buffer) where
-        walked : record { answer = Blocks k; buffer = numbers } ≡ whole_walk (final_by rule l) buffer
+      module _ (k : ℕ) (numbers : List ℕ) (w : record { answer = Ok k; buffer = numbers } ≡ schedule_by rule s buffer) (G : Guarantee calls buffer) where
+        walked : record { answer = Ok k; buffer = numbers } ≡ whole_walk (final_by rule l) buffer
         walked = w ∙ walk_is ∙ ap (λ (g : CircuitDag). whole_walk g buffer) graph_is
 
         blocks_are : k ≡ length (blocks (load_by rule s).graph)
-        blocks_are = let a : Blocks k ≡ Blocks (length (blocks (load_by rule s).graph)) = ap (λ (x : Walked). x.answer) w ∙ answer_is in cc
+        blocks_are = let a : Ok k ≡ Ok (length (blocks (load_by rule s).graph)) = ap (λ (x : Walked). x.answer) w ∙ answer_is in cc
 
         filled_are : filled calls buffer ≡ k
-        filled_are = let a : Blocks k ≡ Blocks (filled calls buffer) = ap (λ (x : Walked). x.answer) walked ∙ G.count in cc
+        filled_are = let a : Ok k ≡ Ok (filled calls buffer) = ap (λ (x : Walked). x.answer) walked ∙ G.count in cc
 
         -- what holds of the walk's buffer and the accepted operations, holds of these numbers and the file's pulses
         carry : (P : List ℕ → List Accepted → Type 0) → P (whole_walk (final_by rule l) buffer).buffer (operations calls) → P numbers (pulses s)
@@ -202,27 +198,27 @@ module _ (rule : LoadingRule) (s : List ℕ) (bytes : (i : ℕ) → get_or s i 0
         }
 
 -- the guarantee of the file's insertions, where it meets what the way asks
-guarantee : (rule : LoadingRule) (s : List ℕ) → ((i : ℕ) → get_or s i 0 < 256) → (load_by rule s).answer ≡ Done → (buffer : List ℕ) → count_of s ≤ length buffer
+guarantee : (rule : LoadingRule) (s : List ℕ) → ((i : ℕ) → get_or s i 0 < 256) → (load_by rule s).answer ≡ Ok tt → (buffer : List ℕ) → count_of s ≤ length buffer
     → Meets rule s → Guarantee (all_by rule (records_of s)) buffer
-guarantee false s bytes done buffer room C = demand_3.whole (records_of s) buffer
+guarantee NearAll s bytes done buffer room C = demand_3.whole (records_of s) buffer
     (record {
       bytes = records_bytes NearAll s bytes done;
       one_all = subst (λ (a : List Accepted). any_of (λ (o : Accepted). front o.bytes) a ≡ true → any_of (λ (o : Accepted). not (front o.bytes)) a ≡ true
           → length (keep (λ (o : Accepted). takes_all o.bytes) a) ≤ 1) (sym (pulses_are NearAll s bytes done)) C.one_all;
     })
     (omega (arith, fits NearAll s bytes done buffer room, ap size (graph_is NearAll s bytes done)))
-guarantee true s bytes done buffer room C =
+guarantee FarAll s bytes done buffer room C =
     both_ends.whole (records_of s) buffer (records_bytes FarAll s bytes done)
     (omega (arith, fits FarAll s bytes done buffer room, ap size (graph_is FarAll s bytes done)))
 
 -- ---- every answer
 
 -- what the contract says of the file s, the buffer before and after, and the answer r
-abbrev pub Promised : LoadingRule → List ℕ → List ℕ → BlockCount → List ℕ → Type 0
+abbrev pub Promised : LoadingRule → List ℕ → List ℕ → Result ℕ Refusal → List ℕ → Type 0
 Promised rule s before r after = (record { answer = r; buffer = after } ≡ schedule_by rule s before)
-    × (((k : ℕ) → r ≡ Blocks k → Meets rule s → ScheduledBy rule s k after) × ((c : Refusal) → r ≡ Refused c → NotScheduledBy rule s before c after))
+    × (((k : ℕ) → r ≡ Ok k → Meets rule s → ScheduledBy rule s k after) × ((c : Refusal) → r ≡ Err c → NotScheduledBy rule s before c after))
 
-module _ (rule : LoadingRule) (s : List ℕ) (bytes : (i : ℕ) → get_or s i 0 < 256) (before : List ℕ) (r : BlockCount) (after : List ℕ)
+module _ (rule : LoadingRule) (s : List ℕ) (bytes : (i : ℕ) → get_or s i 0 < 256) (before : List ℕ) (r : Result ℕ Refusal) (after : List ℕ)
     (w : record { answer = r; buffer = after } ≡ schedule_by rule s before) where
   answers : {x : Walked} → schedule_by rule s before ≡ x → r ≡ x.answer
   answers e = ap (λ (y : Walked). y.answer) (w ∙ e)
@@ -230,37 +226,37 @@ module _ (rule : LoadingRule) (s : List ℕ) (bytes : (i : ℕ) → get_or s i 0
   buffers : {x : Walked} → schedule_by rule s before ≡ x → after ≡ x.buffer
   buffers e = ap (λ (y : Walked). y.buffer) (w ∙ e)
 
-  blocks_of : (k : ℕ) → r ≡ Blocks k → Meets rule s → ScheduledBy rule s k after
+  blocks_of : (k : ℕ) → r ≡ Ok k → Meets rule s → ScheduledBy rule s k after
   blocks_of k e C = go (load_by rule s).answer refl
     where
-      refused : (c : Refusal) → r ≡ Refused c → ⊥
+      refused : (c : Refusal) → r ≡ Err c → ⊥
       refused c f = let z : ◌≡◌ {A = ℕ} 0 1 = cc in omega arith
 
-      go : (a : Outcome) → (load_by rule s).answer ≡ a → ScheduledBy rule s k after
-      go Done d = elim (dec_lt (length before) (count_of s)) [
+      go : (a : Result ⊤ Refusal) → (load_by rule s).answer ≡ a → ScheduledBy rule s k after
+      go (Ok _) d = elim (dec_lt (length before) (count_of s)) [
         | yes h ↦ absurd (refused ShortBuffer (answers (short_refused rule s bytes d before h)))
         | no h ↦ scheduled rule s bytes d before (omega arith) k after
-            (subst (λ (x : BlockCount). record { answer = x; buffer = after } ≡ schedule_by rule s before) e w)
+            (subst (λ (x : Result ℕ Refusal). record { answer = x; buffer = after } ≡ schedule_by rule s before) e w)
             (guarantee rule s bytes d before (omega arith) C)
       ]
-      go (NotLoaded c) d = absurd (refused c (answers (sym (refuses rule s before (load_by rule s) refl c d))))
+      go (Err c) d = absurd (refused c (answers (sym (refuses rule s before (load_by rule s) refl c d))))
 
-  refusal_of : (c : Refusal) → r ≡ Refused c → NotScheduledBy rule s before c after
+  refusal_of : (c : Refusal) → r ≡ Err c → NotScheduledBy rule s before c after
   refusal_of c e = go (load_by rule s).answer refl
     where
-      go : (a : Outcome) → (load_by rule s).answer ≡ a → NotScheduledBy rule s before c after
-      go Done d = elim (dec_lt (length before) (count_of s)) [
+      go : (a : Result ⊤ Refusal) → (load_by rule s).answer ≡ a → NotScheduledBy rule s before c after
+      go (Ok _) d = elim (dec_lt (length before) (count_of s)) [
         | yes h ↦ let t = short_refused rule s bytes d before h in
-            let same : c ≡ ShortBuffer = (let a : r ≡ Refused ShortBuffer = answers t in cc) in
+            let same : c ≡ ShortBuffer = (let a : r ≡ Err ShortBuffer = answers t in cc) in
             record { left = buffers t; cause = inr (d, same, h) }
         | no h ↦ let a = ap (λ (y : Walked). y.answer) w ∙ answer_is rule s bytes d before (omega arith) in
             let z : ◌≡◌ {A = ℕ} 0 1 = cc in
             absurd (omega arith)
       ]
-      go (NotLoaded x) d =
+      go (Err x) d =
           let t = sym (refuses rule s before (load_by rule s) refl x d) in
-          let same : x ≡ c = (let a : r ≡ Refused x = answers t in cc) in
-          record { left = buffers t; cause = inl (d ∙ ap NotLoaded same) }
+          let same : x ≡ c = (let a : r ≡ Err x = answers t in cc) in
+          record { left = buffers t; cause = inl (d ∙ ap Err same) }
 
   pub promised : Promised rule s before r after
   promised = (w, (blocks_of, refusal_of))

@@ -1,22 +1,21 @@
 -- One call from a circuit file to its block numbers: load and whole walk, and the block guarantee in the file's own words, about the file's records and
 -- the numbers that the lent buffer then holds. Everything it says is in this file and in the rules it names. Assumes nothing.
-use Rattle.std.specs.Prelude.{◌≡◌, true, false, cond, not, ◌⊎◌, List, [], ◌∷◌, map, ℕ, ◌+◌, ◌≤◌, ◌<◌, ltb, eqb, pos, negsuc, length, get_or}
+use Rattle.std.specs.Prelude.{◌≡◌, true, false, cond, not, ◌⊎◌, List, [], ◌∷◌, map, ℕ, ◌+◌, ◌≤◌, ◌<◌, ltb, eqb, pos, negsuc, length, get_or, Ok, Err}
 use Rattle.file.specs.Lists.{any_of, keep, member, up_to}
 use Rattle.file.specs.Pairs.{count_of, records_of}
 use Rattle.file.specs.Records.{front}
 use Rattle.file.specs.declared.Refusal.{Refusal}
 use Rattle.file.specs.declared.Refusal.TheVariants.{ShortBuffer}
-use Rattle.file.specs.declared.Outcome.TheVariants.{Done, Refused as NotLoaded}
 use Rattle.insertion.specs.declared.Loaded.{Loaded}
-use Rattle.links.specs.Links.{LoadingRule, NearAll}
+use Rattle.links.specs.declared.LoadingRule.{LoadingRule}
+use Rattle.links.specs.declared.LoadingRule.TheVariants.{NearAll, FarAll}
 use Rattle.insertion.specs.Load.{load_by}
-use Rattle.walk.specs.declared.BlockCount.TheVariants.{Refused}
 use Rattle.walk.specs.Blocks.{Walked, whole_walk, block_of_step}
 use Rattle.guarantee.specs.Guarantee.{Accepted, takes_all, takes_qubits, Each, Orders, different}
 
 -- a refused load's cause, the buffer as it was; else the whole walk of the graph
 abbrev pub walk_loaded : Loaded → List ℕ → Walked
-walk_loaded x buffer = elim x.answer [ Done ↦ whole_walk x.graph buffer | NotLoaded r ↦ record { answer = Refused r; buffer = buffer } ]
+walk_loaded x buffer = elim x.answer [ Ok _ ↦ whole_walk x.graph buffer | Err r ↦ record { answer = Err r; buffer = buffer } ]
 
 -- load in either way, then whole walk: refusals 2, 1, 3, per record 4, 12, 6, 7, then 10
 unfoldable pub schedule_by : LoadingRule → List ℕ → List ℕ → Walked
@@ -53,8 +52,8 @@ pub record Condition (s : List ℕ) : Type 0 where
 -- what the promise asks of a file: in document 01's way the condition; K6: "holds for every list of insertions, without the condition on all-qubit
 -- operations"
 abbrev pub Meets : LoadingRule → List ℕ → Type 0
-Meets false s = Condition s
-Meets true s = Unit {0}
+Meets NearAll s = Condition s
+Meets FarAll s = Unit {0}
 
 -- ---- the promise
 
@@ -89,7 +88,7 @@ Scheduled s k numbers = ScheduledBy NearAll s k numbers
 -- record. Refusal 11 never comes.
 pub record NotScheduledBy (rule : LoadingRule) (s before : List ℕ) (r : Refusal) (after : List ℕ) : Type 0 where
   pub left : after ≡ before
-  pub cause : ((load_by rule s).answer ≡ NotLoaded r) ⊎ (((load_by rule s).answer ≡ Done) × (r ≡ ShortBuffer) × (length before < count_of s))
+  pub cause : ((load_by rule s).answer ≡ Err r) ⊎ (((load_by rule s).answer ≡ Ok tt) × (r ≡ ShortBuffer) × (length before < count_of s))
 
 -- .. in document 01's way
 abbrev pub NotScheduled : List ℕ → List ℕ → Refusal → List ℕ → Type 0

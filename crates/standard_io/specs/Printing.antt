@@ -1,7 +1,8 @@
 -- "The program `blocks` loads a file from standard input, of which it takes the first 65,536 bytes": what of this a contract can say. Assumes nothing.
 use Rattle.std.specs.Prelude.{◌≡◌, List, ℕ, ◌≤◌, length}
 use Rattle.report.specs.declared.Text.{Text}
-use Rattle.links.specs.Links.{LoadingRule, NearAll}
+use Rattle.links.specs.declared.LoadingRule.{LoadingRule}
+use Rattle.links.specs.declared.LoadingRule.TheVariants.{NearAll}
 use Rattle.report.specs.Text.{file_text_by, text_of}
 
 -- the text of some file of at most 65,536 bytes, loaded in a way. Which bytes standard input has, no contract can say

@@ -42,5 +42,5 @@ pub fn print_blocks_by(rt: &(impl Input + Print), rule: LoadingRule) -> Text
 pub fn print_blocks(rt: &(impl Input + Print)) -> Text
     ensures { Printed result }
 {
-    print_blocks_by(rt, links::NEAR_ALL)
+    print_blocks_by(rt, LoadingRule::NearAll)
 }

@@ -5,11 +5,10 @@
 // tools/graph_answers.py computes the same from document 01.
 #![tactic(auto)]
 
-use accessors::{Got, Operation};
-use file::{Outcome, Refusal, RefusalValue, RegisterKey};
+use file::{Refusal, RegisterKey};
 use graph::{CircuitDag, NodeIndex, Qubit};
 use std::io;
-use walk::{NextBlock, ParallelBlocks};
+use walk::ParallelBlocks;
 
 fn print(rt: &impl Print, text: &[u8]) -> io::Result<()> {
     rt.write_all(text)
@@ -24,8 +23,8 @@ fn print_refusal(rt: &impl Print, r: Refusal) -> io::Result<()> {
     print_number(rt, file::refusal_number(r) as usize)?;
     let value = file::refusal_value(r);
     match value {
-        RefusalValue::Nothing => {}
-        RefusalValue::At(i) => {
+        None => {}
+        Some(i) => {
             print(rt, b" at")?;
             print_number(rt, i)?;
         }
@@ -36,13 +35,11 @@ fn print_refusal(rt: &impl Print, r: Refusal) -> io::Result<()> {
 // The first nine entries of a buffer, as many as the longest list has, and the end of the line.
 fn print_buffer(rt: &impl Print, buffer: &[u16]) -> io::Result<()> {
     print(rt, b" |")?;
-    let mut i: usize = 0;
-    while i < 9 {
+    for i in 0..9 {
         if buffer.len() <= i {
             break;
         }
         print_number(rt, file::to_index(buffer[i]))?;
-        i += 1;
     }
     print(rt, b"\n")
 }
@@ -50,10 +47,8 @@ fn print_buffer(rt: &impl Print, buffer: &[u16]) -> io::Result<()> {
 // A buffer before a call.
 fn fill(buffer: &mut [u16]) {
     let n = buffer.len();
-    let mut i: usize = 0;
-    while i < n {
+    for i in 0..n {
         buffer[i] = 9999;
-        i += 1;
     }
 }
 
@@ -77,22 +72,22 @@ fn probe_get(rt: &impl Print, g: CircuitDag, v: u16) -> io::Result<()> {
     print(rt, b":")?;
     let got = accessors::get(g, NodeIndex(v));
     match got {
-        Got::Node(n) => {
+        Ok(n) => {
             print_number(rt, n.kind as usize)?;
             print_number(rt, n.form as usize)?;
             print_number(rt, file::to_index(n.label))?;
             print_place(rt, n.place)?;
         }
-        Got::Refused(r) => print_refusal(rt, r)?,
+        Err(r) => print_refusal(rt, r)?,
     }
     print(rt, b"\n")
 }
 
-fn print_operation(rt: &impl Print, x: Operation) -> io::Result<()> {
+fn print_operation(rt: &impl Print, x: Result<Option<NodeIndex>, Refusal>) -> io::Result<()> {
     match x {
-        Operation::Node(v) => print_number(rt, file::to_index(v.0))?,
-        Operation::None => print(rt, b" none")?,
-        Operation::Refused(r) => print_refusal(rt, r)?,
+        Ok(Some(v)) => print_number(rt, file::to_index(v.0))?,
+        Ok(None) => print(rt, b" none")?,
+        Err(r) => print_refusal(rt, r)?,
     }
     Ok(())
 }
@@ -144,12 +139,10 @@ fn probe_entries(rt: &impl Print, g: CircuitDag, v: usize) -> io::Result<()> {
 // How many nodes a set has.
 fn count_marks(marks: [bool; 512]) -> usize {
     let mut k: usize = 0;
-    let mut v: usize = 0;
-    while v < 512 {
+    for v in 0..512 {
         if marks[v] {
             k = if k < 512 { k + 1 } else { k };
         }
-        v += 1;
     }
     k
 }
@@ -161,18 +154,17 @@ fn probe_step(
     state: ParallelBlocks,
     buffer: &mut [u16],
 ) -> io::Result<ParallelBlocks> {
+    let mut walk = state;
     fill(&mut *buffer);
-    let x = state.next(g, &mut *buffer);
+    let answer = walk.next(g, &mut *buffer);
     print(rt, b"next buffer")?;
     print_number(rt, buffer.len())?;
     print(rt, b":")?;
-    let answer = x.answer;
     match answer {
-        NextBlock::Block(k) => print_number(rt, k)?,
-        NextBlock::None => print(rt, b" none")?,
-        NextBlock::Refused(r) => print_refusal(rt, r)?,
+        Ok(Some(k)) => print_number(rt, k)?,
+        Ok(None) => print(rt, b" none")?,
+        Err(r) => print_refusal(rt, r)?,
     }
-    let walk = x.walk;
     let current = walk.current;
     let executed = walk.executed;
     print_number(rt, count_marks(current))?;
@@ -230,7 +222,7 @@ fn probe_load(rt: &impl Print, bytes: &[u8]) -> io::Result<()> {
     let loaded = insertion::load(bytes);
     let answer = loaded.answer;
     let g = loaded.graph;
-    if let Outcome::Refused(r) = answer {
+    if let Err(r) = answer {
         print(rt, b"load")?;
         print_refusal(rt, r)?;
         print(rt, b"\n")?;

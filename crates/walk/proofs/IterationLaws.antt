@@ -17,7 +17,6 @@ use Rattle.graph.proofs.ListLaws.{members_all, member_marked}
 use Rattle.queries.proofs.BufferLaws.{keep_low}
 use Rattle.graph.proofs.ListLaws.{all_same}
 use Rattle.walk.specs.declared.ParallelBlocks.{ParallelBlocks}
-use Rattle.walk.specs.declared.NextBlock.TheVariants.{Block, None}
 use Rattle.walk.specs.Blocks.{marks, start, unstarted, joined, followers, next_block, next_state}
 use Rattle.walk.specs.Blocks.{Stepped, steps, next, blocks, number_from, Walked, state_after, block_of_step}
 use Rattle.walk.specs.Steps.{next_call, entry_of, Iterated, NextIterated}
@@ -28,6 +27,7 @@ use Rattle.walk.proofs.BlockLaws.{empty_list, W, edges, firsts, rank, upward, fi
 use Rattle.walk.proofs.BlockLaws.{past_last, number_is, number-none}
 use Rattle.walk.proofs.NumberLaws.{Numbered, in_block, in_none, number_cases}
 use Rattle.walk.proofs.WholeLaws.{walk_done, walk_entry}
+use Rattle.std.specs.Prelude.{Ok, Some, None}
 
 -- ---- a step on any two sets
 
@@ -41,17 +41,17 @@ none_left false f l h e = e
 
 module _ (g : CircuitDag) (w : ParallelBlocks) (b : List ℕ) where
   step_block : is_empty (next_block g w) ≡ false → length (next_block g w) ≤ length b
-      → steps g w b ≡ record { answer = Block (length (next_block g w)); walk = next_state g w; buffer = onto (next_block g w) b }
+      → steps g w b ≡ record { answer = Ok (Some (length (next_block g w))); walk = next_state g w; buffer = onto (next_block g w) b }
   step_block e room = rw (some_left (unstarted w) (members g.first.block) (followers g w) e, le-ltb _ _ room) refl
 
-  step-none : unstarted w ≡ false → is_empty (next_block g w) ≡ true → steps g w b ≡ record { answer = None; walk = next_state g w; buffer = b }
+  step-none : unstarted w ≡ false → is_empty (next_block g w) ≡ true → steps g w b ≡ record { answer = (Ok None); walk = next_state g w; buffer = b }
   step-none u e = rw (none_left (unstarted w) (members g.first.block) (followers g w) u e) refl
 
   step_walk : length (next_block g w) ≤ length b → (steps g w b).walk ≡ next_state g w
   step_walk room = rw (le-ltb _ _ room) (either (not (unstarted w) && is_empty (followers g w)))
     where
-      either : (c : Bool) → (cond {A = Stepped} c (record { answer = None; walk = next_state g w; buffer = b })
-          (record { answer = Block (length (next_block g w)); walk = next_state g w; buffer = onto (next_block g w) b })).walk ≡ next_state g w
+      either : (c : Bool) → (cond {A = Stepped} c (record { answer = (Ok None); walk = next_state g w; buffer = b })
+          (record { answer = Ok (Some (length (next_block g w))); walk = next_state g w; buffer = onto (next_block g w) b })).walk ≡ next_state g w
       either true = refl
       either false = refl
 
@@ -124,17 +124,17 @@ module _ (g : CircuitDag) (s : sound g ≡ true) where
         ∙ next-steps (suc t) (lent (suc t))
 
     call_block : (t : ℕ) → t < length (blocks g)
-        → next_call g lent t ≡ record { answer = Block (length (block_of_step g t)); walk = state_after g (suc t); buffer = onto (block_of_step g t) (lent t) }
+        → next_call g lent t ≡ record { answer = Ok (Some (length (block_of_step g t))); walk = state_after g (suc t); buffer = onto (block_of_step g t) (lent t) }
     unfolding state_after
     call_block t l = call_steps t ∙ step_block g (state_after g t) (lent t) (before_last g s t l) (block_fits t)
 
     call_none : is_empty (members g.first.block) ≡ false → (t : ℕ) → length (blocks g) ≤ t
-        → next_call g lent t ≡ record { answer = None; walk = state_after g (suc t); buffer = lent t }
+        → next_call g lent t ≡ record { answer = (Ok None); walk = state_after g (suc t); buffer = lent t }
     unfolding state_after
     call_none e zero l = absurd (clash_bool (ap is_empty (sym first_step ∙ past_last g s zero l)) e)
     call_none e (suc t) l = call_steps (suc t) ∙ step-none g (state_after g (suc t)) (lent (suc t)) (started e t) (ap is_empty (past_last g s (suc t) l))
 
-    call_forever : members g.first.block ≡ [] → (t : ℕ) → next_call g lent t ≡ record { answer = Block 0; walk = start; buffer = lent t }
+    call_forever : members g.first.block ≡ [] → (t : ℕ) → next_call g lent t ≡ record { answer = Ok (Some 0); walk = start; buffer = lent t }
     unfolding start marks joined any_of
     call_forever e t = call_steps t ∙ ap (λ (w : ParallelBlocks). steps g w (lent t)) (stays_start e t)
         ∙ (let z : 0 ≤ length (lent t) = omega arith in rw (e, le-ltb _ _ z) refl)

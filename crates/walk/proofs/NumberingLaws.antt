@@ -8,13 +8,18 @@ use native.Mathlib.Omega.{arith}
 use native.Mathlib.Numerals.{add-one}
 use native.Mathlib.Decide.{dec_lt, ℕ_discrete}
 use lib.Dec.{ltb}
-use lib.ListN.{length, get_or, set, drop, length-set}
-use lib.Seq.{get_or-set_same, get_or-set_other, set-get_or, set_at, drop-cons}
+use lib.ListN.{length, get_or, set, take, drop, length-set}
+use lib.Seq.{get_or-set_same, get_or-set_other, set-get_or, take-suc}
 use borrow.Author.Tests.{ltb-true, lt-ltb}
 use Rattle.file.specs.Lists.{onto, up_to}
 use Rattle.file.proofs.BoolLaws.{clash_bool, split_lt}
 use Rattle.graph.proofs.ListLaws.{length-up_to, up_to-suc}
+use Rattle.queries.specs.Marks.{EndsBelow}
 use Rattle.walk.specs.Numbering.{at, following, Joined, Above, Swept, Rises, Settled, Begun, Zeroed, Counted}
+
+-- the arcs along the edges
+pub joined_of : {from to : List ℕ} {m : ℕ} → EndsBelow to from m → Joined from to m
+joined_of E = record { room = E.count; from_low = E.far_below; to_low = E.near_below }
 
 -- ---- a store
 
@@ -254,31 +259,17 @@ count-done {n = n} {v = v} I h le = let z : v ≡ n = omega arith in rw z at I
 
 -- ---- the numbers in the lent buffer
 
-module _ (num : List ℕ) (old : List ℕ) where
-  pub record Written (n : ℕ) (now : List ℕ) (v : ℕ) : Type 0 where
-    pub low : v ≤ n
-    pub cap : n ≤ 512
-    pub room : n ≤ length old
-    pub long : length now ≡ length old
-    pub is : now ≡ map (at num) (up_to v) ++ drop v old
+pub taken : (num : List ℕ) (n : ℕ) → n ≤ length num → take n num ≡ map (at num) (up_to n)
+unfolding Rattle.file.specs.Lists.count_from
+taken num zero h = refl
+taken num (suc n) h =
+    let e : suc n ≡ n + 1 = omega arith in
+    take-suc num n 0 (omega arith) ∙ ap (λ (l : List ℕ). l ++ (get_or num n 0 ∷ [])) (taken num n (omega arith)) ∙ sym (up_to-suc (at num) n)
+    ∙ ap (λ (k : ℕ). map (at num) (up_to k)) (sym e)
 
-  pub write_begin : (n : ℕ) → n ≤ 512 → n ≤ length old → Written n old 0
-  unfolding Rattle.file.specs.Lists.count_from
-  write_begin n a b = record { low = omega arith; cap = a; room = b; long = refl; is = refl }
-
-  pub write_more : {n : ℕ} {now : List ℕ} {v : ℕ} → Written n now v → v < n → Written n (set now v (at num v)) (v + 1)
-  write_more {n} {now} {v} I h = record {
-    low = omega arith;
-    cap = I.cap;
-    room = I.room;
-    long = length-set now v (at num v) ∙ I.long;
-    is = ap (λ (l : List ℕ). set l v (at num v)) (I.is ∙ ap (λ (l : List ℕ). map (at num) (up_to v) ++ l) (drop-cons old v 0 (omega (arith, I.room))))
-        ∙ set_at (map (at num) (up_to v)) (get_or old v 0) (drop (suc v) old) (at num v) v (length-up_to (at num) v)
-        ∙ sym (ap (λ (l : List ℕ). l ++ drop (v + 1) old) (up_to-suc (at num) v) ∙ append_assoc (map (at num) (up_to v)) (at num v ∷ []) (drop (v + 1) old)
-        ∙ ap (λ (k : ℕ). map (at num) (up_to v) ++ (at num v ∷ drop k old)) (add-one v));
-  }
-
-  pub write_done : {n : ℕ} {now : List ℕ} {v : ℕ} → Written n now v → n ≤ v → now ≡ onto (map (at num) (up_to n)) old
-  write_done {n} {now} {v} I le =
-      let z : v ≡ n = omega (arith, I.low) in
-      I.is ∙ ap (λ (k : ℕ). map (at num) (up_to k) ++ drop k old) z ∙ ap (λ (k : ℕ). map (at num) (up_to n) ++ drop k old) (sym (length-up_to (at num) n))
+-- the first n numbers over the buffer's first entries
+pub written : (num buffer new : List ℕ) (n : ℕ) → n ≤ 512 → length num ≡ 512 → n ≤ length buffer → new ≡ take n num → new ++ drop n buffer ≡ onto (map (at num) (up_to n)) buffer
+written num buffer new n a b c e =
+    let t = taken num n (omega arith) in
+    let l : n ≡ length (map (at num) (up_to n)) = sym (length-up_to (at num) n) in
+    rw (e, t) (ap (λ (k : ℕ). map (at num) (up_to n) ++ drop k buffer) l)

@@ -13,11 +13,12 @@ use Rattle.file.specs.Lists.{is_empty, onto, up_to}
 use Rattle.file.specs.declared.Refusal.TheVariants.{ShortBuffer, Unsound}
 use Rattle.graph.specs.declared.CircuitDag.{CircuitDag}
 use Rattle.graph.specs.Dag.{absent, size}
-use Rattle.graph.specs.Soundness.{sound}
+use Rattle.graph.specs.Soundness.{sound, check_sound}
+use Rattle.file.specs.declared.Refusal.{Refusal}
+use Rattle.queries.proofs.QueryLaws.{not_sound}
 use Rattle.file.proofs.BoolLaws.{bool_cases, clash_bool, not-true, not-false, and_intro, flip-not}
 use Rattle.graph.proofs.ListLaws.{up_to_ext, up_to-at, length-up_to}
 use Rattle.graph.proofs.SoundnessLaws.{sound_told}
-use Rattle.walk.specs.declared.BlockCount.TheVariants.{Blocks, Refused as NotWalked}
 use Rattle.walk.specs.Blocks.{Walked, blocks, number_from, block_numbers, whole_walk, block_of_step}
 use Rattle.walk.specs.Numbering.{at, following, Joined, Above, Rises, Settled, Begun, Zeroed, Counted}
 use Rattle.walk.proofs.Bounds.{any, any_elim, any_none, any-and, greatest_le, greatest-at}
@@ -25,6 +26,7 @@ use Rattle.walk.proofs.BlockSteps.{edge-at, at_edge, not-empty, empty-not, block
 use Rattle.walk.proofs.BlockLaws.{W, edges, firsts, rank, upward, first_start, block-number, last_step, before_last, past_last, number_is}
 use Rattle.walk.proofs.NumberLaws.{number_of, Numbered, in_block, in_none, number_cases, number_first, greatest_before, number-next, number_alone}
 use Rattle.walk.proofs.NumberLaws.{number_behind}
+use Rattle.std.specs.Prelude.{Ok, Err}
 
 module _ (g : CircuitDag) (s : sound g ≡ true) where
   abbrev n : ℕ
@@ -176,16 +178,16 @@ module _ (g : CircuitDag) (s : sound g ≡ true) where
 
 -- ---- the whole outcome
 
-pub walk_unsound : (g : CircuitDag) (buffer : List ℕ) → sound g ≡ false → record { answer = NotWalked Unsound; buffer = buffer } ≡ whole_walk g buffer
+pub walk_refused : (g : CircuitDag) (buffer : List ℕ) (c : Refusal) → check_sound g ≡ Err c → record { answer = Err c; buffer = buffer } ≡ whole_walk g buffer
 unfolding whole_walk
-walk_unsound g buffer e = rw e refl
+walk_refused g buffer c e = let p = not_sound g c e in rw (p.0, p.1) refl
 
-pub walk_short : (g : CircuitDag) (buffer : List ℕ) → sound g ≡ true → length buffer < size g → record { answer = NotWalked ShortBuffer; buffer = buffer } ≡ whole_walk g buffer
+pub walk_short : (g : CircuitDag) (buffer : List ℕ) → sound g ≡ true → length buffer < size g → record { answer = Err ShortBuffer; buffer = buffer } ≡ whole_walk g buffer
 unfolding whole_walk
 walk_short g buffer e h = rw (e, lt-ltb _ _ h) refl
 
 module _ (g : CircuitDag) (s : sound g ≡ true) (buffer : List ℕ) where
-  pub walk_done : size g ≤ length buffer → whole_walk g buffer ≡ record { answer = Blocks (length (blocks g)); buffer = onto (block_numbers g) buffer }
+  pub walk_done : size g ≤ length buffer → whole_walk g buffer ≡ record { answer = Ok (length (blocks g)); buffer = onto (block_numbers g) buffer }
   unfolding whole_walk
   walk_done h = rw (s, le-ltb (length buffer) (size g) h) refl
 
@@ -196,7 +198,7 @@ module _ (g : CircuitDag) (s : sound g ≡ true) (buffer : List ℕ) where
 
 pub walk_whole : (g : CircuitDag) (buffer : List ℕ) (s : sound g ≡ true) → size g ≤ length buffer → (num : List ℕ) (r : ℕ) (written : List ℕ)
     → ((v : ℕ) → v < size g → at num v ≡ number_from 0 (blocks g) v) → Counted num (size g) r → written ≡ onto (map (at num) (up_to (size g))) buffer
-    → record { answer = Blocks r; buffer = written } ≡ whole_walk g buffer
+    → record { answer = Ok r; buffer = written } ≡ whole_walk g buffer
 unfolding whole_walk
 walk_whole g buffer s h num r written e C w =
     rw (s, le-ltb _ _ h, w, up_to_ext (at num) (number_from 0 (blocks g)) (size g) e, blocks-counted g s num r e C) refl

@@ -1,5 +1,5 @@
 -- "Blocks and chain": the step of the walk, and the whole walk. Assumes nothing.
-use Rattle.std.specs.Prelude.{Bool, true, false, cond, not, ◌&&◌, ◌||◌, List, [], ◌∷◌, map, ℕ, zero, suc, ◌+◌, ltb, length, set, replicate}
+use Rattle.std.specs.Prelude.{Bool, true, false, cond, not, ◌&&◌, ◌||◌, List, [], ◌∷◌, map, ℕ, zero, suc, ◌+◌, ltb, length, set, replicate, Result, Option, Ok, Err, Some, None}
 use Rattle.file.specs.Lists.{any_of, all_of, keep, is_empty, onto, member, members, up_to}
 use Rattle.file.specs.declared.Refusal.{Refusal}
 use Rattle.file.specs.declared.Refusal.TheVariants.{Absent, ShortBuffer, Unsound}
@@ -8,10 +8,6 @@ use Rattle.graph.specs.Dag.{absent, size, has_edge}
 use Rattle.graph.specs.Soundness.{sound}
 use Rattle.queries.specs.Reach.{blocking}
 use Rattle.walk.specs.declared.ParallelBlocks.{ParallelBlocks}
-use Rattle.walk.specs.declared.NextBlock.{NextBlock}
-use Rattle.walk.specs.declared.NextBlock.TheVariants.{Block, None, Refused}
-use Rattle.walk.specs.declared.BlockCount.{BlockCount}
-use Rattle.walk.specs.declared.BlockCount.TheVariants.{Blocks, Refused as NotWalked}
 
 -- a set of nodes as its marks
 unfoldable pub marks : List ℕ → List Bool
@@ -56,22 +52,22 @@ block_of_step g t = next_block g (state_after g t)
 
 -- the answer, the state and the lent buffer afterwards
 pub record Stepped : Type 0 where
-  pub answer : NextBlock
+  pub answer : Result (Option ℕ) Refusal
   pub walk : ParallelBlocks
   pub buffer : List ℕ
 
 -- "left as it was: walk, buffers"
 abbrev pub refuses_step : Refusal → ParallelBlocks → List ℕ → Stepped
-refuses_step r w buffer = record { answer = Refused r; walk = w; buffer = buffer }
+refuses_step r w buffer = record { answer = Err r; walk = w; buffer = buffer }
 
 -- "Blocks are written ascending."
 abbrev pub writes : List ℕ → CircuitDag → ParallelBlocks → List ℕ → Stepped
 writes l g w buffer = cond (ltb (length buffer) (length l)) (refuses_step ShortBuffer w buffer)
-    (record { answer = Block (length l); walk = next_state g w; buffer = onto l buffer })
+    (record { answer = Ok (Some (length l)); walk = next_state g w; buffer = onto l buffer })
 
 -- "empty means None", but for the first block
 abbrev pub steps : CircuitDag → ParallelBlocks → List ℕ → Stepped
-steps g w buffer = cond (not (unstarted w) && is_empty (followers g w)) (record { answer = None; walk = next_state g w; buffer = buffer })
+steps g w buffer = cond (not (unstarted w) && is_empty (followers g w)) (record { answer = (Ok None); walk = next_state g w; buffer = buffer })
     (writes (next_block g w) g w buffer)
 
 -- "`ParallelBlocks::next`"; "queries 11, 8, 9, 10"; "node absent, also in a walk's current set"
@@ -99,11 +95,11 @@ block_numbers g = map (number_from 0 (blocks g)) (up_to (size g))
 
 -- the answer and the lent buffer afterwards
 pub record Walked : Type 0 where
-  pub answer : BlockCount
+  pub answer : Result ℕ Refusal
   pub buffer : List ℕ
 
 -- "It writes each node's block number as 16 bits, .. and returns the number of non-empty blocks."
 unfoldable pub whole_walk : CircuitDag → List ℕ → Walked
-whole_walk g buffer = cond (not (sound g)) (record { answer = NotWalked Unsound; buffer = buffer })
-    (cond (ltb (length buffer) (size g)) (record { answer = NotWalked ShortBuffer; buffer = buffer })
-    (record { answer = Blocks (length (blocks g)); buffer = onto (block_numbers g) buffer }))
+whole_walk g buffer = cond (not (sound g)) (record { answer = Err Unsound; buffer = buffer })
+    (cond (ltb (length buffer) (size g)) (record { answer = Err ShortBuffer; buffer = buffer })
+    (record { answer = Ok (length (blocks g)); buffer = onto (block_numbers g) buffer }))

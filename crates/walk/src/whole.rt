@@ -4,11 +4,12 @@ ghost use Rattle.file.specs.Lists.{members, onto, up_to};
 ghost use Rattle.graph.specs.Dag.{size};
 ghost use Rattle.graph.specs.Soundness.{sound};
 ghost use Rattle.walk.specs.Blocks.{whole_walk, blocks, number_from, joined, start, next};
-ghost use Rattle.walk.specs.Numbering.{at, following, Joined, Swept, Settled, Begun, Zeroed, Counted, Reaching, Freed, free_after};
+ghost use Rattle.walk.specs.Numbering.{at, following, Swept, Settled, Begun, Zeroed, Counted, Reaching, Freed, free_after};
 
-use crate::{BlockCount, NextBlock, ParallelBlocks, WalkStep};
+use crate::ParallelBlocks;
 use file::Refusal;
-use graph::CircuitDag;
+use graph::{CircuitDag, check_sound};
+use queries::{Arcs, answer_marked};
 
 // The number of an edge's end: at least one more than its start's, 65535 staying.
 fn raised(old: u16, before: u16) -> u16
@@ -17,74 +18,43 @@ fn raised(old: u16, before: u16) -> u16
     if before == 65535 {
         return before;
     }
-    let next = before + 1;
-    if old < next {
-        return next;
-    }
-    old
+    old.max(before + 1)
 }
 
-// Edge i of m in a pass up or down the list.
-fn edge_in_turn(i: usize, m: usize, down: bool) -> usize
+// The arc that comes i-th in a pass up or down the m arcs.
+fn in_turn(i: usize, m: usize, down: bool) -> usize
     requires { i < m }
     ensures { result ≡ cond down (m - (i + 1)) i }
 {
-    if down {
-        return m - (i + 1);
-    }
-    i
+    if down { m - (i + 1) } else { i }
 }
 
-// Something changed before, or this number grew.
-fn has_changed(before: bool, old: u16, new: u16) -> bool
-    ensures { result ≡ (before || ltb old new) }
-{
-    if before {
-        return true;
-    }
-    old < new
-}
-
-// One pass over the edges, up or down the list: whether it changed a number.
-fn sweep(from: &[u16; 2048], to: &[u16; 2048], m: usize, down: bool, num: &mut [u16; 512]) -> bool
-    requires { Joined from.now to.now m × (length num.old ≡ 512) }
-    ensures { Swept from.now to.now m num.old num.new result }
+// One pass along the edges, up or down the list: whether it changed a number.
+fn sweep(arcs: &Arcs, down: bool, num: &mut [u16; 512]) -> bool
+    ensures { Swept arcs.now.far.now arcs.now.near.now arcs.now.count num.old num.new result }
 {
     let mut changed = false;
-    let mut i: usize = 0;
-    while i < m {
-        let j = edge_in_turn(i, m, down);
-        let f = file::to_index(from[j]);
-        let t = file::to_index(to[j]);
+    for i in 0..arcs.count {
+        let j = in_turn(i, arcs.count, down);
+        let t = usize::from(arcs.near[j]);
         let old = num[t];
-        let new = raised(old, num[f]);
+        let new = raised(old, num[usize::from(arcs.far[j])]);
         num[t] = new;
-        changed = has_changed(changed, old, new);
-        i += 1;
+        changed |= old < new;
     }
     changed
 }
 
 // Passes up and down in turn until nothing changes, at most one for each node: no path is longer.
-fn settle(
-    from: &[u16; 2048],
-    to: &[u16; 2048],
-    m: usize,
-    n: usize,
-    begin_down: bool,
-    num: &mut [u16; 512],
-)
-    requires { Joined from.now to.now m × (length num.old ≡ 512) }
-    ensures { Settled from.now to.now m n num.old num.new }
+fn settle(arcs: &Arcs, n: usize, begin_down: bool, num: &mut [u16; 512])
+    ensures { Settled arcs.now.far.now arcs.now.near.now arcs.now.count n num.old num.new }
 {
     let mut down = begin_down;
-    let mut k: usize = 0;
-    while k < n {
-        if !sweep(from, to, m, down, num) {
+    for _k in 0..n {
+        if !sweep(arcs, down, num) {
             return;
         }
         down = !down;
-        k += 1;
     }
 }
 
@@ -92,10 +62,7 @@ fn settle(
 fn number_at_first(member: bool) -> u16
     ensures { result ≡ cond member 0 65535 }
 {
-    if member {
-        return 0;
-    }
-    65535
+    if member { 0 } else { 65535 }
 }
 
 // So for all nodes.
@@ -103,24 +70,18 @@ fn first_numbers(block: &[bool; 512]) -> [u16; 512]
     ensures { Begun block.now result }
 {
     let mut num = [65535u16; 512];
-    let mut v: usize = 0;
-    while v < 512 {
+    for v in 0..512 {
         num[v] = number_at_first(block[v]);
-        v += 1;
     }
     num
 }
 
 // 0 for every node with an incoming edge.
-fn number_targets(to: &[u16; 2048], m: usize, num: &mut [u16; 512])
-    requires { (m ≤ 2048) × ((j : ℕ) → j < m → at to.now j < 512) × (length num.old ≡ 512) }
-    ensures { Zeroed to.now m num.old num.new }
+fn number_targets(arcs: &Arcs, num: &mut [u16; 512])
+    ensures { Zeroed arcs.now.near.now arcs.now.count num.old num.new }
 {
-    let mut i: usize = 0;
-    while i < m {
-        let t = file::to_index(to[i]);
-        num[t] = 0;
-        i += 1;
+    for i in 0..arcs.count {
+        num[usize::from(arcs.near[i])] = 0;
     }
 }
 
@@ -131,11 +92,7 @@ fn count_with(count: usize, x: u16) -> usize
     if x == 65535 {
         return count;
     }
-    let next = (x as usize) + 1;
-    if count < next {
-        return next;
-    }
-    count
+    count.max(usize::from(x) + 1)
 }
 
 // How many blocks the numbers name.
@@ -144,24 +101,10 @@ fn count_blocks(num: &[u16; 512], n: usize) -> usize
     ensures { Counted num.now n result }
 {
     let mut count: usize = 0;
-    let mut v: usize = 0;
-    while v < n {
+    for v in 0..n {
         count = count_with(count, num[v]);
-        v += 1;
     }
     count
-}
-
-// The first n numbers at the start of the lent buffer.
-fn write_numbers(num: &[u16; 512], n: usize, buffer: &mut [u16])
-    requires { (n ≤ 512) × (n ≤ length buffer.old) }
-    ensures { buffer.new ≡ onto (map (at num.now) (up_to n)) buffer.old }
-{
-    let mut v: usize = 0;
-    while v < n {
-        buffer[v] = num[v];
-        v += 1;
-    }
 }
 
 // Each node's block number, 65535 where no block holds it.
@@ -169,200 +112,93 @@ fn numbers_of(g: CircuitDag) -> [u16; 512]
     requires { sound g ≡ true }
     ensures { (v : ℕ) → v < size g → at result v ≡ number_from 0 (blocks g) v }
 {
-    let n = g.nodes.count;
-    let fronts = g.fronts;
-    let edges = g.edges;
-    let m = edges.count;
-    let from = edges.from;
-    let to = edges.to;
-    let end = g.first;
-    let block = end.block;
-    let mut num = first_numbers(&block);
-    number_targets(&to, m, &mut num);
-    settle(&from, &to, m, n, 0 < fronts, &mut num);
+    let arcs = Arcs {
+        near: &g.edges.to,
+        far: &g.edges.from,
+        count: g.edges.count,
+    };
+    let mut num = first_numbers(&g.first.block);
+    number_targets(&arcs, &mut num);
+    settle(&arcs, g.nodes.count, 0 < g.fronts, &mut num);
     num
 }
 
 // "The whole walk": each node's block number to the lent buffer, and the number of non-empty blocks.
-pub fn whole_walk(g: CircuitDag, buffer: &mut [u16]) -> BlockCount
+pub fn whole_walk(g: CircuitDag, buffer: &mut [u16]) -> Result<usize, Refusal>
     ensures { record { answer = result; buffer = buffer.new } ≡ whole_walk g buffer.old }
 {
-    if !graph::is_sound(g) {
-        return BlockCount::Refused(Refusal::Unsound);
-    }
+    check_sound(g)?;
     let n = g.nodes.count;
     if buffer.len() < n {
-        return BlockCount::Refused(Refusal::ShortBuffer);
+        return Err(Refusal::ShortBuffer);
     }
     let num = numbers_of(g);
-    write_numbers(&num, n, buffer);
-    let count = count_blocks(&num, n);
-    BlockCount::Blocks(count)
-}
-
-// One of two, by the code's own tests.
-fn is_either(a: bool, b: bool) -> bool
-    ensures { result ≡ (a || b) }
-{
-    if a {
-        return true;
-    }
-    b
-}
-
-// A mark that a number of 65535 takes away.
-fn is_free(a: bool, x: u16) -> bool
-    ensures { result ≡ (a && not (eqb x 65535)) }
-{
-    if x == 65535 {
-        return false;
-    }
-    a
+    buffer[..n].copy_from_slice(&num[..n]);
+    Ok(count_blocks(&num, n))
 }
 
 // The members of either set.
 fn join_marks(a: &[bool; 512], b: &[bool; 512]) -> [bool; 512]
-    requires { (length a.now ≡ 512) × (length b.now ≡ 512) }
     ensures { result ≡ joined a.now b.now }
 {
-    let mut all = graph::no_marks();
-    let mut v: usize = 0;
-    while v < 512 {
-        all[v] = is_either(a[v], b[v]);
-        v += 1;
+    let mut all = [false; 512];
+    for v in 0..512 {
+        all[v] = a[v] | b[v];
     }
     all
 }
 
 // The nodes with an edge from a chosen one.
-fn targets_of(from: &[u16; 2048], to: &[u16; 2048], m: usize, chosen: &[bool; 512]) -> [bool; 512]
-    requires { Joined from.now to.now m }
-    ensures { Reaching from.now to.now m chosen.now result }
+fn targets_of(arcs: &Arcs, chosen: &[bool; 512]) -> [bool; 512]
+    ensures { Reaching arcs.now.far.now arcs.now.near.now arcs.now.count chosen.now result }
 {
-    let mut found = graph::no_marks();
-    let mut i: usize = 0;
-    while i < m {
-        let f = file::to_index(from[i]);
-        let t = file::to_index(to[i]);
-        found[t] = is_either(found[t], chosen[f]);
-        i += 1;
+    let mut found = [false; 512];
+    for i in 0..arcs.count {
+        found[usize::from(arcs.near[i])] |= chosen[usize::from(arcs.far[i])];
     }
     found
 }
 
 // Takes away the nodes that wait: those with an edge from one with 65535.
-fn take_waiting(
-    from: &[u16; 2048],
-    to: &[u16; 2048],
-    m: usize,
-    num: &[u16; 512],
-    found: &mut [bool; 512],
-)
-    requires { Joined from.now to.now m × (length found.old ≡ 512) }
-    ensures { Freed from.now to.now m num.now found.old found.new }
+fn take_waiting(arcs: &Arcs, num: &[u16; 512], found: &mut [bool; 512])
+    ensures { Freed arcs.now.far.now arcs.now.near.now arcs.now.count num.now found.old found.new }
 {
-    let mut i: usize = 0;
-    while i < m {
-        let f = file::to_index(from[i]);
-        let t = file::to_index(to[i]);
-        found[t] = is_free(found[t], num[f]);
-        i += 1;
-    }
-}
-
-// How many members a set has.
-fn count_members(s: &[bool; 512]) -> usize
-    requires { length s.now ≡ 512 }
-    ensures { result ≡ length (members s.now) }
-{
-    let mut k: usize = 0;
-    let mut i: usize = 0;
-    while i < 512 {
-        let at = i;
-        i += 1;
-        if s[at] {
-            k += 1;
-        }
-    }
-    k
-}
-
-// The members, ascending, at the start of the lent buffer.
-fn write_members(s: &[bool; 512], buffer: &mut [u16])
-    requires { (length s.now ≡ 512) × (length (members s.now) ≤ length buffer.old) }
-    ensures { buffer.new ≡ onto (members s.now) buffer.old }
-{
-    let mut k: usize = 0;
-    let mut i: usize = 0;
-    while i < 512 {
-        let at = i;
-        i += 1;
-        if s[at] {
-            buffer[k] = at as u16;
-            k += 1;
-        }
+    for i in 0..arcs.count {
+        found[usize::from(arcs.near[i])] &= num[usize::from(arcs.far[i])] != 65535;
     }
 }
 
 // The successors of the current nodes that are blocked by none.
-fn find_followers(g: CircuitDag, current: [bool; 512], all: [bool; 512]) -> [bool; 512]
+fn find_followers(g: CircuitDag, current: &[bool; 512], all: &[bool; 512]) -> [bool; 512]
     requires { sound g ≡ true }
-    ensures { (length result ≡ 512) × (members result ≡ free_after g current all) }
+    ensures { members result ≡ free_after g current.now all.now }
 {
-    let n = g.nodes.count;
-    let fronts = g.fronts;
-    let edges = g.edges;
-    let m = edges.count;
-    let from = edges.from;
-    let to = edges.to;
-    let mut num = first_numbers(&all);
-    settle(&from, &to, m, n, 0 < fronts, &mut num);
-    let mut found = targets_of(&from, &to, m, &current);
-    take_waiting(&from, &to, m, &num, &mut found);
+    let arcs = Arcs {
+        near: &g.edges.to,
+        far: &g.edges.from,
+        count: g.edges.count,
+    };
+    let mut num = first_numbers(all);
+    settle(&arcs, g.nodes.count, 0 < g.fronts, &mut num);
+    let mut found = targets_of(&arcs, current);
+    take_waiting(&arcs, &num, &mut found);
     found
 }
 
 // The first block before a walk has started, the followers afterwards.
-fn find_block(g: CircuitDag, current: [bool; 512], all: [bool; 512], started: bool) -> [bool; 512]
+fn find_block(g: CircuitDag, current: &[bool; 512], all: &[bool; 512], started: bool) -> [bool; 512]
     requires { sound g ≡ true }
-    ensures { (length result ≡ 512) × (members result ≡ cond started (free_after g current all) (members g.first.block)) }
+    ensures { members result ≡ cond started (free_after g current.now all.now) (members g.first.block) }
 {
     if started {
         return find_followers(g, current, all);
     }
-    let end = g.first;
-    let block = end.block;
-    block
-}
-
-// A walk that has started finds no block.
-fn is_last(started: bool, k: usize) -> bool
-    ensures { result ≡ (started && eqb k 0) }
-{
-    if started {
-        return k == 0;
-    }
-    false
-}
-
-// "left as it was": the walk that came in.
-fn refuse_step(walk: ParallelBlocks, cause: Refusal) -> WalkStep
-    ensures { result ≡ record { answer = NextBlock.Refused cause; walk = walk } }
-{
-    let answer = NextBlock::Refused(cause);
-    WalkStep { answer, walk }
-}
-
-// An answer with the walk that it leaves.
-fn answer_step(answer: NextBlock, current: [bool; 512], executed: [bool; 512]) -> WalkStep
-    ensures { result ≡ record { answer = answer; walk = record { current = current; executed = executed } } }
-{
-    let walk = ParallelBlocks { current, executed };
-    WalkStep { answer, walk }
+    g.first.block
 }
 
 impl ParallelBlocks {
     // Before the first step: two empty sets.
+    #[tactic(auto, unfolding(crate::specs::Blocks::start))]
     pub fn new() -> ParallelBlocks
         ensures { result ≡ start }
     {
@@ -372,31 +208,23 @@ impl ParallelBlocks {
         }
     }
 
-    // The next block to the lent buffer, and the walk after it.
-    pub fn next(self, g: CircuitDag, buffer: &mut [u16]) -> WalkStep
-        ensures { record { answer = result.answer; walk = result.walk; buffer = buffer.new }
-            ≡ next g self buffer.old }
+    // The next block to the lent buffer, with how many nodes it has, or None. A refusal leaves the walk as it was.
+    pub fn next(&mut self, g: CircuitDag, buffer: &mut [u16]) -> Result<Option<usize>, Refusal>
+        ensures { record { answer = result; walk = self.new; buffer = buffer.new }
+            ≡ next g self.old buffer.old }
     {
-        if !graph::is_sound(g) {
-            return refuse_step(self, Refusal::Unsound);
+        check_sound(g)?;
+        if !graph::members_below(self.current, g.nodes.count) {
+            return Err(Refusal::Absent);
         }
-        let n = g.nodes.count;
-        let current = self.current;
-        if !graph::members_below(current, n) {
-            return refuse_step(self, Refusal::Absent);
-        }
-        let executed = self.executed;
-        let started = is_either(graph::has_member(current), graph::has_member(executed));
-        let all = join_marks(&current, &executed);
-        let found = find_block(g, current, all, started);
-        let k = count_members(&found);
-        if is_last(started, k) {
-            return answer_step(NextBlock::None, found, all);
-        }
-        if buffer.len() < k {
-            return refuse_step(self, Refusal::ShortBuffer);
-        }
-        write_members(&found, buffer);
-        answer_step(NextBlock::Block(k), found, all)
+        let started = graph::has_member(self.current) | graph::has_member(self.executed);
+        let all = join_marks(&self.current, &self.executed);
+        let found = find_block(g, &self.current, &all, started);
+        let k = answer_marked(found, buffer)?;
+        *self = ParallelBlocks {
+            current: found,
+            executed: all,
+        };
+        Ok(if started & (k == 0) { None } else { Some(k) })
     }
 }

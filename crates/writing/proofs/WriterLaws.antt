@@ -9,9 +9,9 @@ use borrow.Author.Tests.{le-leb, lt-leb, le-ltb, lt-ltb}
 use Rattle.file.specs.Lists.{count_from, up_to, onto, put_at}
 use Rattle.file.specs.declared.Refusal.TheVariants.{TooManyRecords, ShortBuffer}
 use Rattle.file.proofs.PutLaws.{Copying, copies_one, copies_all, put-none, put-put, put-onto, length-put}
-use Rattle.writing.specs.declared.Written.TheVariants.{Bytes}
 use Rattle.writing.specs.Writing.{bytes_of, pairs_from, join_records, file_of, put_if_fits, gate_pairs, Wrote, refuses, write_file}
 use Rattle.writing.proofs.WritingLaws.{bytes_length, count-records, gates_length}
+use Rattle.std.specs.Prelude.{Ok}
 
 -- ---- a part at a position
 
@@ -190,9 +190,9 @@ module _ (f : ℕ → List ℕ) (s : (i : ℕ) → length (f i) ≡ 14) (n : ℕ
 
   pub gates_written : n ≤ 512 → 2 + 18 * n ≤ length b → (b1 b2 b3 : List ℕ) → b1 ≡ put_if_fits 0 (bytes_of 2 n) b → b2 ≡ put_at 2 (gate_pairs n (2 + 4 * n)) b1
       → b3 ≡ put_at (2 + 4 * n) (join_records (map f (up_to n))) b2
-      → ◌≡◌ {A = Wrote} (record { answer = Bytes (2 + 18 * n); buffer = b3 }) (write_file (map f (up_to n)) b)
+      → ◌≡◌ {A = Wrote} (record { answer = Ok (2 + 18 * n); buffer = b3 }) (write_file (map f (up_to n)) b)
   unfolding write_file
   gates_written d r b1 b2 b3 e1 e2 e3 =
       let size = gates_length f s n in
       rw (count-records f s n, le-ltb 512 n d, le-ltb (length b) (length (file_of (map f (up_to n)))) (omega (arith, size)))
-      (λ t. record { answer = Bytes (sym size t); buffer = gates_file r b1 b2 b3 e1 e2 e3 t })
+      (λ t. record { answer = Ok (sym size t); buffer = gates_file r b1 b2 b3 e1 e2 e3 t })

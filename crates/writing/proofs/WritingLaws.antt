@@ -15,8 +15,6 @@ use Rattle.file.specs.Tight.{tight_pairs, tight_file}
 use Rattle.file.specs.Records.{mask, label, parse_record, good, cause_of, empty_set, record_of, record_rule}
 use Rattle.file.specs.Records.{definition_rule, qubit_rule, tail_rule, qubits_by, classical_of}
 use Rattle.file.specs.declared.Refusal.TheVariants.{EmptySet}
-use Rattle.file.specs.declared.FileCheck.TheVariants.{Sound}
-use Rattle.file.specs.declared.Parsed.TheVariants.{Record as Parses, Refused}
 use Rattle.file.specs.declared.InvolvedQubits.TheVariants.{Set}
 use Rattle.file.specs.declared.InvolvedClassical.TheVariants.{None as NoRegister}
 use Rattle.file.specs.declared.Place.{Place}
@@ -25,6 +23,8 @@ use Rattle.file.proofs.PutLaws.{length-count_from}
 use Rattle.file.proofs.PairLaws.{pair_there}
 use Rattle.file.proofs.TightLaws.{tight_file_lem}
 use Rattle.writing.specs.Writing.{bytes_of, pairs_from, join_records, file_of, end_byte, gate, ReadsAgain, FileReads}
+use Rattle.file.specs.declared.Refusal.{Refusal}
+use Rattle.std.specs.Prelude.{Result, Ok, Err}
 
 -- ---- a number's bytes
 
@@ -200,7 +200,7 @@ module _ (l : List (List ℕ)) (few : length l ≤ 512) (fits : length (file_of 
       rw z (pair i h).size
 
   -- the m pairs from pair k on
-  pairs_tight : (m k : ℕ) → m + k ≡ n → tight_pairs m k (start_at a l k) (file_of l) ≡ Sound
+  pairs_tight : (m k : ℕ) → m + k ≡ n → tight_pairs m k (start_at a l k) (file_of l) ≡ Ok tt
   unfolding tight_pairs
   pairs_tight zero k e =
       let z : k ≡ n = omega arith in
@@ -212,19 +212,19 @@ module _ (l : List (List ℕ)) (few : length l ≤ 512) (fits : length (file_of 
       ap (λ (x : ℕ). start_at a l k + x) (length-is k h) ∙ sym (start-next a l k h) ∙ ap (start_at a l) (sym (add-one k)) in
       rw (next, eq-eqb (offset_of (file_of l) k) (start_at a l k) (offset_is k h)) (pairs_tight m (k + 1) (omega arith))
 
-  file_tight : tight_file (file_of l) ≡ Sound
+  file_tight : tight_file (file_of l) ≡ Ok tt
   unfolding tight_file
   file_tight =
       let two = le-ltb (length (file_of l)) 2 (omega (arith, file_length l)) in
       let table = le-ltb (length (file_of l)) a (omega (arith, file_length l)) in
       rw (count-is, two, le-ltb 512 n few, table, ← start-zero a l) (pairs_tight n 0 (omega arith))
 
-  check_good : check_file (file_of l) ≡ Sound
+  check_good : check_file (file_of l) ≡ Ok tt
   check_good = tight_file_lem.passes (file_of l) file_tight
 
   record_is : (i : ℕ) → i < n → record_at (file_of l) i ≡ get_or l i []
   record_is i h =
-      ap (λ (p : Place). part_of p (file_of l)) (pair_there (file_of l) i check_good (omega (arith, count-is)))
+      ap (λ (p : Result Place Refusal). part_of p (file_of l)) (pair_there (file_of l) i check_good (omega (arith, count-is)))
       ∙ rw (length-is i h, offset_is i h, file_is)
       (subst (λ (x : ℕ). take (length (get_or l i [])) (drop (start_at x l i) (q ++ join_records l)) ≡ get_or l i []) q-length (part_at q l i h))
 
@@ -284,12 +284,12 @@ gate_says false m h = λ t. record { front = false; kind = 0; label = gate-label
 
 -- a gate with a qubit parses to just its end and its qubits
 pub gate_parses : (front : Bool) (m : ℕ) → 0 < m → m < 2 ^ 64
-    → parse_record (gate (end_byte front) m) ≡ Parses (record { front = front; kind = 0; label = 0; qubits = Set m; classical = NoRegister })
+    → parse_record (gate (end_byte front) m) ≡ Ok (record { front = front; kind = 0; label = 0; qubits = Set m; classical = NoRegister })
 unfolding parse_record
 gate_parses front m p h = rw (gate-good front m p h, gate_says front m h) refl
 
 -- .. and one without is refused 12 (K2)
-pub gate-refused : (front : Bool) → parse_record (gate (end_byte front) 0) ≡ Refused (EmptySet 0)
+pub gate-refused : (front : Bool) → parse_record (gate (end_byte front) 0) ≡ Err (EmptySet 0)
 unfolding number_at gate bytes_of parse_record good cause_of record_rule definition_rule qubit_rule tail_rule
 gate-refused true = refl
 gate-refused false = refl

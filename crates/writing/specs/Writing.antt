@@ -1,13 +1,10 @@
 -- A circuit file made of records, without slack, and what the writers leave in a lent buffer. Assumes nothing.
-use Rattle.std.specs.Prelude.{◌≡◌, Bool, false, cond, List, [], ◌∷◌, ◌++◌, map, ℕ, zero, suc, ◌+◌, ◌*◌, ◌/◌, ◌%◌, ◌≤◌, ◌<◌, ltb, leb, length, get_or}
+use Rattle.std.specs.Prelude.{◌≡◌, Bool, false, cond, List, [], ◌∷◌, ◌++◌, map, ℕ, zero, suc, ◌+◌, ◌*◌, ◌/◌, ◌%◌, ◌≤◌, ◌<◌, ltb, leb, length, get_or, Result, Ok, Err}
 use Rattle.file.specs.Lists.{up_to, onto, put_at}
 use Rattle.file.specs.Pairs.{count_of, check_file, record_at, records_of}
 use Rattle.file.specs.Tight.{tight_file}
 use Rattle.file.specs.declared.Refusal.{Refusal}
 use Rattle.file.specs.declared.Refusal.TheVariants.{TooManyRecords, ShortBuffer}
-use Rattle.file.specs.declared.FileCheck.TheVariants.{Sound}
-use Rattle.writing.specs.declared.Written.{Written}
-use Rattle.writing.specs.declared.Written.TheVariants.{Bytes, Refused}
 
 -- "All fields are unsigned, little-endian": a number as k bytes
 unfoldable pub bytes_of : ℕ → ℕ → List ℕ
@@ -49,8 +46,8 @@ gates_of n ends masks = map (gate_at ends masks) (up_to n)
 
 -- the file has no slack, passes the check, and has these records and no others
 pub record ReadsAgain (l : List (List ℕ)) : Type 0 where
-  pub tight : tight_file (file_of l) ≡ Sound
-  pub sound : check_file (file_of l) ≡ Sound
+  pub tight : tight_file (file_of l) ≡ Ok tt
+  pub sound : check_file (file_of l) ≡ Ok tt
   pub count : count_of (file_of l) ≡ length l
   pub each : (i : ℕ) → i < length l → record_at (file_of l) i ≡ get_or l i []
   pub records : records_of (file_of l) ≡ l
@@ -67,12 +64,12 @@ put_if_fits i l buffer = cond (leb (i + length l) (length buffer)) (put_at i l b
 
 -- a writer's answer, and the buffer afterwards
 pub record Wrote : Type 0 where
-  pub answer : Written
+  pub answer : Result ℕ Refusal
   pub buffer : List ℕ
 
 -- "left as it was: buffers"
 abbrev pub refuses : Refusal → List ℕ → Wrote
-refuses r buffer = record { answer = Refused r; buffer = buffer }
+refuses r buffer = record { answer = Err r; buffer = buffer }
 
 -- the file of these records at the buffer's start: "n over 512" 2, then "buffer shorter than the answer" 10; "Entries after the answer keep their
 -- old contents."
@@ -80,7 +77,7 @@ unfoldable pub write_file : List (List ℕ) → List ℕ → Wrote
 write_file l buffer =
     cond (ltb 512 (length l)) (refuses TooManyRecords buffer)
     (cond (ltb (length buffer) (length (file_of l))) (refuses ShortBuffer buffer)
-    (record { answer = Bytes (length (file_of l)); buffer = onto (file_of l) buffer }))
+    (record { answer = Ok (length (file_of l)); buffer = onto (file_of l) buffer }))
 
 -- ---- what a private function promises
 

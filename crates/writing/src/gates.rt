@@ -3,7 +3,6 @@ ghost use Rattle.std.specs.Prelude.{◌≡◌, ◌+◌, ◌*◌, ◌≤◌, leng
 ghost use Rattle.file.specs.Lists.{put_at};
 ghost use Rattle.writing.specs.Writing.{join_records, gates_of, gate_pairs, write_file};
 
-use crate::Written;
 use crate::fields::{put_gate, put_u16};
 use file::Refusal;
 
@@ -36,19 +35,24 @@ fn put_gates(n: usize, ends: &[bool; 512], masks: &[u64; 512], out: &mut [u8])
 
 // The file of n gates at the buffer's start, 2 + 18n bytes: gate i has end i, true for the front, and mask i. Refused 2
 // for n over 512, then 10.
-pub fn write_gates(n: usize, ends: &[bool; 512], masks: &[u64; 512], out: &mut [u8]) -> Written
+pub fn write_gates(
+    n: usize,
+    ends: &[bool; 512],
+    masks: &[u64; 512],
+    out: &mut [u8],
+) -> Result<usize, Refusal>
     ensures { record { answer = result; buffer = out.new }
         ≡ write_file (gates_of n ends.now masks.now) out.old }
 {
     if 512 < n {
-        return Written::Refused(Refusal::TooManyRecords);
+        return Err(Refusal::TooManyRecords);
     }
     let size = 2 + 18 * n;
     if out.len() < size {
-        return Written::Refused(Refusal::ShortBuffer);
+        return Err(Refusal::ShortBuffer);
     }
     put_u16(out, 0, n as u16);
     put_pairs(n, out);
     put_gates(n, ends, masks, out);
-    Written::Bytes(size)
+    Ok(size)
 }

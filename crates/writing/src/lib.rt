@@ -9,10 +9,3 @@ mod gates;
 pub use fields::{gate_record, put_gate, put_part, put_u16};
 use file::Refusal;
 pub use gates::write_gates;
-
-// What writing a file answers: its length, or why the buffer is as it was.
-#[derive(Clone, Copy)]
-pub enum Written {
-    Bytes(usize),
-    Refused(Refusal),
-}

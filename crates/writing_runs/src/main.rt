@@ -5,7 +5,6 @@
 
 use file::Refusal;
 use std::io;
-use writing::Written;
 
 fn print(rt: &impl Print, text: &[u8]) -> io::Result<()> {
     rt.write_all(text)
@@ -22,10 +21,8 @@ fn print_byte(rt: &impl Print, b: u8) -> io::Result<()> {
 // The bytes, and the end of the line.
 fn print_bytes(rt: &impl Print, bytes: &[u8]) -> io::Result<()> {
     print(rt, b" |")?;
-    let mut i: usize = 0;
-    while i < bytes.len() {
+    for i in 0..bytes.len() {
         print_byte(rt, bytes[i])?;
-        i += 1;
     }
     print(rt, b"\n")
 }
@@ -33,10 +30,8 @@ fn print_bytes(rt: &impl Print, bytes: &[u8]) -> io::Result<()> {
 // A buffer before a call.
 fn fill(buffer: &mut [u8]) {
     let n = buffer.len();
-    let mut i: usize = 0;
-    while i < n {
+    for i in 0..n {
         buffer[i] = 170;
-        i += 1;
     }
 }
 
@@ -70,8 +65,8 @@ fn probe_gates(rt: &impl Print, n: usize, buffer: &mut [u8]) -> io::Result<()> {
     let masks = some_masks();
     let answer = writing::write_gates(n, &ends, &masks, &mut *buffer);
     match answer {
-        Written::Bytes(k) => print_number(rt, k)?,
-        Written::Refused(r) => print_refusal(rt, r)?,
+        Ok(k) => print_number(rt, k)?,
+        Err(r) => print_refusal(rt, r)?,
     }
     Ok(())
 }

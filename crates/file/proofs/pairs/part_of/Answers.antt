@@ -1,16 +1,5 @@
-use Rattle.file.proofs.PairLaws.{pair_inside, is_part, no_part}
-use mathlib.Core.Path.{refl, sym, ◌∙◌}
-use native.Mathlib.Omega.{arith}
+use Rattle.file.proofs.PairLaws.{pair_fits}
 use Rattle.file.proofs.pairs.part_of.Goals as goal
 
-pub overflow_add-result : goal.overflow_add-result
-overflow_add-result c = omega (arith, pair_inside _ _ _ _ (sym c.locate_pair-place.ensures ∙ c.in-At.is))
-
-pub slice_bounds-result-end : goal.slice_bounds-result-end
-slice_bounds-result-end c = omega (arith, pair_inside _ _ _ _ (sym c.locate_pair-place.ensures ∙ c.in-At.is))
-
-pub returns-in-At : goal.returns-in-At
-returns-in-At c = is_part _ _ _ refl _ _ (sym c.locate_pair-place.ensures ∙ c.in-At.is) refl refl
-
-pub returns-in-Refused : goal.returns-in-Refused
-returns-in-Refused c = no_part _ _ _ refl _ (sym c.locate_pair-place.ensures ∙ c.in-Refused.is) refl refl
+pub part_at-requires : goal.part_at-requires
+part_at-requires c = pair_fits _ _ _ c.locate_pair.ensures

@@ -38,4 +38,4 @@ returns c =
     let kept : record_rule (bytes) ≡ true = let fits = sym c.qubits_fit.ensures ∙ c.if-not-qubits_fit.false in keeps_rule _ (record { long = c.if-part-lt14.false; end = c.if-end-gt1.false; kinds = sym c.kind_fits.ensures ∙ c.if-not-kind_fits.false; qubits = subst (λ (m : ℕ). qubit_rule (qubit_form (bytes)) m ≡ true) c.read_mask-mask.ensures fits; tail = sym c.tail_fits.ensures ∙ c.if-not-tail_fits.false }) in
     let empty-told : (b : Bool) → c.is_empty_set.result ≡ b → empty_set (bytes) ≡ b = λ b h. ap (λ (m : ℕ). eqb (qubit_form (bytes)) 2 && eqb m 0) (sym c.read_mask-mask.ensures) ∙ sym c.is_empty_set.ensures ∙ h in
     let q = c.involved_qubits-qubits.ensures ∙ ap (qubits_by _) c.read_mask-mask.ensures in
-    good _ (kept) (empty-told false c.if-is_empty_set.false) _ _ _ q c.involved_classical-classical.ensures c.read_u16-label.ensures.0
+    good _ (kept) (empty-told false c.if-is_empty_set.false) _ _ _ q c.involved_classical-classical.ensures c.field_at-label.ensures

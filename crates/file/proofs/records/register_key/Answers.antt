@@ -10,4 +10,4 @@ pub returns-then-size-k : goal.returns-then-size-k
 returns-then-size-k c = no_entry _ _ (omega (arith, c.if-size-lt16.false, c.if-size-k.true))
 
 pub returns : goal.returns
-returns c = rw c.field_at.ensures.0 refl
+returns c = rw c.field_at.ensures refl

@@ -1,21 +1,14 @@
-use mathlib.Core.Path.{refl}
-use native.Mathlib.Omega.{arith}
-use borrow.Author.Rules.{rules}
-use Rattle.file.proofs.BoolLaws.{clash_bool}
-use Rattle.graph.proofs.CheckLaws.{block_more, block-done}
+use Rattle.std.proofs.Common.{◌≡◌, ℕ, ◌-◌, ◌≤◌, arith, length, take, drop}
+use Rattle.std.proofs.lemmas.List.{take_all, length-drop}
+use Rattle.graph.proofs.ListLaws.{any_listed}
+use Rattle.graph.proofs.CheckLaws.{marks_below}
 use Rattle.graph.proofs.sets.members_below.Goals as goal
 
-pub loop-v-init : goal.loop-v-init
-loop-v-init c =
-    record {
-      start = omega arith;
-      long = search rules;
-      clear = λ q u a k. absurd (omega arith);
-      found = λ q. absurd (clash_bool q refl);
-    }
-
-pub loop-v-preserved : goal.loop-v-preserved
-loop-v-preserved c = block_more c.loop-v.invariant c.loop-v-test.true
-
 pub returns : goal.returns
-returns c = block-done c.loop-v.invariant c.loop-v-test.false
+returns c =
+    let block = c.args.marks in
+    let m : ℕ = c.min.result in
+    let long : length (drop m block) ≤ 512 - m = omega (arith, length-drop m block) in
+    let all : take c.loop-mark.mark-index (take (512 - m) (drop m block)) ≡ drop m block =
+    rw (take_all (512 - m) (drop m block) long) (take_all c.loop-mark.mark-index (drop m block) (rw (take_all (512 - m) (drop m block) long) at c.loop-mark-test.false)) in
+    rw (c.loop-mark.invariant, all, ← any_listed, c.min.ensures) (marks_below block c.args.n (omega arith))

@@ -1,9 +1,6 @@
-use Prim.Native.Nat.{◌-◌}
-use Rattle.graph.proofs.CheckLaws.{BlockPassed}
+use Rattle.std.proofs.Common.{◌≡◌, Bool, take}
+use Rattle.std.specs.List.{list_any}
 use Rattle.graph.proofs.sets.members_below.Given as goal
 
-abbrev pub invariant-loop-v : goal.invariant-loop-v
-invariant-loop-v l = BlockPassed l.marks l.n l.above l.v
-
-abbrev pub decreases-loop-v : goal.decreases-loop-v
-decreases-loop-v l = 512 - l.v
+abbrev pub invariant-loop-mark : goal.invariant-loop-mark
+invariant-loop-mark l = l.above ≡ list_any (λ (b : Bool). b) (take l.mark-index l.mark-items)

@@ -1,36 +1,28 @@
-use mathlib.Core.Path.{refl}
-use native.Mathlib.Omega.{arith}
-use lib.IntN.{pos}
-use lib.ListN.{get_or}
-use Rattle.graph.proofs.CheckLaws.{slot_read, none_marked, place_outside, place_taken, place_more, places_done}
+use Rattle.std.proofs.Common.{◌∙◌, ◌<◌, arith, sym}
+use Rattle.std.proofs.lemmas.List.{length-take-le}
+use Rattle.graph.proofs.CheckLaws.{places_begin, slot_read, slot_some, slot_none, place_outside, place_taken, place_more, places_done}
 use Rattle.graph.proofs.soundness.places_fit.Goals as goal
 
-pub loop-v-init : goal.loop-v-init
-loop-v-init c =
-    record {
-      fit = c.requires.0;
-      ends = c.requires.1;
-      low = omega arith;
-      long = refl;
-      inside = λ u k. absurd (omega arith);
-      marks = none_marked _ 512;
-      apart = λ u w a k. absurd (omega arith);
-    }
+pub loop-place-init : goal.loop-place-init
+loop-place-init c = places_begin c.args.g.now c.requires
 
-pub returns-then-s-ge512 : goal.returns-then-s-ge512
-returns-then-s-ge512 c =
-    let a = c.args in
-    place_outside c.loop-v.invariant _ c.loop-v-test.true (slot_read a.backs a.fronts _ (get_or a.place.now c.loop-v.v (pos 0)) c.slot_of-arg-1.given c.slot_of-s.ensures) c.if-s-ge512.true
+pub returns-in_default : goal.returns-in_default
+returns-in_default c =
+    let g = c.args.g.now in
+    let k : c.loop-place.place-index < g.nodes.count = omega (arith, length-take-le g.nodes.count g.nodes.place) in
+    place_outside c.loop-place.invariant k (slot_none _ _ (sym (slot_read g c.loop-place.place-index _ k c.slot_of-arg-1.given c.slot_of.ensures) ∙ c.in_default.is))
 
 pub returns-then-taken-s : goal.returns-then-taken-s
 returns-then-taken-s c =
-    let a = c.args in
-    place_taken c.loop-v.invariant _ c.loop-v-test.true (slot_read a.backs a.fronts _ (get_or a.place.now c.loop-v.v (pos 0)) c.slot_of-arg-1.given c.slot_of-s.ensures) c.if-s-ge512.false c.if-taken-s.true
+    let g = c.args.g.now in
+    let k : c.loop-place.place-index < g.nodes.count = omega (arith, length-take-le g.nodes.count g.nodes.place) in
+    place_taken c.loop-place.invariant _ k (slot_some _ _ _ (sym (slot_read g c.loop-place.place-index _ k c.slot_of-arg-1.given c.slot_of.ensures) ∙ c.in-Some.is)) c.if-taken-s.true
 
-pub loop-v-preserved : goal.loop-v-preserved
-loop-v-preserved c =
-    let a = c.args in
-    place_more c.loop-v.invariant _ c.loop-v-test.true (slot_read a.backs a.fronts _ (get_or a.place.now c.loop-v.v (pos 0)) c.slot_of-arg-1.given c.slot_of-s.ensures) c.if-s-ge512.false c.if-taken-s.false
+pub loop-place-preserved : goal.loop-place-preserved
+loop-place-preserved c =
+    let g = c.args.g.now in
+    let k : c.loop-place.place-index < g.nodes.count = omega (arith, length-take-le g.nodes.count g.nodes.place) in
+    place_more c.loop-place.invariant _ k (slot_some _ _ _ (sym (slot_read g c.loop-place.place-index _ k c.slot_of-arg-1.given c.slot_of.ensures) ∙ c.in-Some.is)) c.if-taken-s.false
 
 pub returns : goal.returns
-returns c = places_done c.loop-v.invariant c.loop-v-test.false
+returns c = places_done c.loop-place.invariant (omega (arith, length-take-le c.args.g.now.nodes.count c.args.g.now.nodes.place))

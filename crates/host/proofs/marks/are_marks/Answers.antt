@@ -1,20 +1,12 @@
-use mathlib.Core.Path.{refl}
-use native.Mathlib.Omega.{arith}
+use Rattle.std.proofs.Common.{refl, arith}
 use Rattle.file.specs.Lists.{all_of}
 use Rattle.host.specs.Marks.{are_marks}
-use Rattle.host.proofs.MarkLaws.{tested_more, tested_done}
-use borrow.Author.Rules.{rules}
+use Rattle.host.proofs.MarkLaws.{tested_more}
 use Rattle.host.proofs.marks.are_marks.Goals as goal
 
--- src/marks.rt:11:5
-pub loop-v-init : goal.loop-v-init
+pub loop-b-init : goal.loop-b-init
 unfolding are_marks all_of
-loop-v-init c = record { low = omega arith; long = search rules; before = refl }
+loop-b-init c = record { low = omega arith; long = c.told-bytes; before = refl }
 
--- src/marks.rt:11:5
-pub loop-v-preserved : goal.loop-v-preserved
-loop-v-preserved c = tested_more c.loop-v.invariant c.loop-v-test.true
-
--- src/marks.rt:6:1
-pub returns : goal.returns
-returns c = tested_done c.loop-v.invariant c.loop-v-test.false
+pub loop-b-preserved : goal.loop-b-preserved
+loop-b-preserved c = tested_more c.loop-b.invariant (omega (arith, c.told-bytes, c.loop-b-test.true))

@@ -1,16 +1,9 @@
-use mathlib.Core.Path.{refl, sym, ◌∙◌}
+use Rattle.std.proofs.Common.{◌<◌, sym, ◌∙◌, rules}
 use Rattle.host.proofs.NodeLaws.{predecessors_beyond}
 use Rattle.host.proofs.querying.sawhekonu_blocking_predecessors.Goals as goal
 
-pub returns-then-not-is_dag : goal.returns-then-not-is_dag
-returns-then-not-is_dag c = let m = sym c.is_dag.ensures ∙ c.if-not-is_dag.true in rw (c.refuse.ensures, m) refl
-
-pub returns-then-node-gt65535 : goal.returns-then-node-gt65535
-returns-then-node-gt65535 c =
+pub returns-in_default : goal.returns-in_default
+returns-in_default c =
+    let far : 65535 < c.args.node = search rules in
     let m = sym c.is_dag.ensures ∙ c.if-not-is_dag.false in
-    rw (c.no_node.ensures, m, ← c.dag_of.ensures) (predecessors_beyond _ _ _ c.if-node-gt65535.true _)
-
-pub returns : goal.returns
-returns c =
-    let m = sym c.is_dag.ensures ∙ c.if-not-is_dag.false in
-    rw (c.of_query.ensures, m, ← c.dag_of-2.ensures, ← c.blocking_predecessors-x.ensures) refl
+    rw (c.no_node.ensures, m, ← c.dag_of.ensures) (predecessors_beyond _ _ _ far _)

@@ -12,10 +12,5 @@ returns-then-edges-le1984 c =
 pub overflow_add-edges : goal.overflow_add-edges
 overflow_add-edges c = omega (arith, c.edge_bound.ensures, c.requires.0, bound_few c.args.qubits)
 
-pub returns-then-edges-edge_bound-le2048 : goal.returns-then-edges-edge_bound-le2048
-returns-then-edges-edge_bound-le2048 c =
-    let a = c.args in
-    surely_fits a.edges a.k (edge_bound a.qubits) c.requires.1 (omega (arith, c.if-edges-edge_bound-le2048.true, c.edge_bound.ensures))
-
 pub overflow_add-result : goal.overflow_add-result
 overflow_add-result c = omega (arith, c.requires.0, c.requires.1, bound_few c.args.qubits)

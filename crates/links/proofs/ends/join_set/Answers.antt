@@ -1,35 +1,18 @@
-use Prim.Native.Nat.{◌≤◌}
-use native.Mathlib.Omega.{arith}
-use Rattle.links.specs.Links.{rule_of}
-use Rattle.links.proofs.LinkLaws.{names_all}
-use Rattle.links.proofs.JoinLaws.{fits_more, joined_set}
+use Rattle.std.proofs.Common.{arith}
+use Rattle.links.proofs.LinkLaws.{steady_rule}
+use Rattle.links.proofs.JoinLaws.{linking_begins, linking_room, linking_goes, linking_ends}
 use Rattle.links.proofs.ends.join_set.Goals as goal
 
-pub link_set-k-requires : goal.link_set-k-requires
-link_set-k-requires c =
-    let p = c.requires in
-    let h : c.args.v.0 ≤ 512 = omega arith in
-    let f = fits_more _ 512 _ _ _ h p.2 in
-    record { v_bound = (p.0, f.all, f.nodes, p.1); by_index = f.entries }
+pub loop-m-init : goal.loop-m-init
+loop-m-init c = linking_begins _ _ _ _ _ _ _ (omega arith) c.requires.0 c.requires.1 c.fresh_entry-fresh.ensures c.requires.3
 
-pub join_block-requires : goal.join_block-requires
-join_block-requires c = c.requires.0
+pub link_qubit-requires-clause-room : goal.link_qubit-requires-clause-room
+link_qubit-requires-clause-room c = linking_room _ _ _ _ _ _ _ _ _ _ c.loop-m.invariant (omega arith)
 
-pub grow_end-requires : goal.grow_end-requires
-grow_end-requires c = (c.requires.2.low, c.mask_top-t.ensures.1)
-
-pub grow_end-requires-2 : goal.grow_end-requires-2
-grow_end-requires-2 c = (c.requires.3.low, c.mask_top-t.ensures.1)
+pub loop-m-preserved : goal.loop-m-preserved
+loop-m-preserved c =
+    let e = c.link_qubit.ensures in
+    linking_goes _ _ _ _ _ _ _ _ _ _ c.loop-m.invariant (steady_rule c.args.rule) (omega arith) _ _ _ _ _ c.lowest-q.ensures c.without_lowest-m.ensures e.near e.far e.others
 
 pub returns : goal.returns
-returns c =
-    let p = c.requires in
-    let t = c.mask_top-t.ensures in
-    joined_set (rule_of c.args.rule) (names_all c.args.rule) _ _ (omega arith) p.0 _ _ _ _ _ _ p.2 p.3 _ _ _ _ _ _ _ _ _ _
-    c.fresh_entry-fresh.ensures
-    c.link_set-k.ensures
-    t.0
-    t.1
-    c.join_block.ensures
-    c.grow_end.ensures
-    c.grow_end-2.ensures
+returns c = linking_ends _ _ _ _ _ _ _ _ _ _ c.loop-m.invariant c.loop-m-test.false _ (rw c.len.ensures.counted at c.join_block.ensures)

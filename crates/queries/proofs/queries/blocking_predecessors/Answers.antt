@@ -1,44 +1,19 @@
-use Prim.Native.Nat.{◌<◌}
-use native.Mathlib.Omega.{arith}
-use mathlib.Core.Path.{◌≡◌, sym, ◌∙◌}
-use mathlib.Core.Bool.{true}
-use Rattle.graph.specs.Soundness.{sound}
+use Rattle.std.proofs.Common.{sym, ◌∙◌}
+use Rattle.std.proofs.lemmas.Result.{err_from_is_err_and}
 use Rattle.graph.proofs.SizeLaws.{dag_sized}
-use Rattle.graph.proofs.SoundnessLaws.{Sound, sound_told}
-use Rattle.queries.proofs.ReachLaws.{ends_back}
-use Rattle.queries.proofs.QueryLaws.{predecessors_unsound, predecessors_absent, predecessors_answers}
+use Rattle.queries.specs.Queries.{blocking_predecessors}
+use Rattle.queries.proofs.QueryLaws.{asked, not-asked, predecessors_answers}
 use Rattle.queries.proofs.queries.blocking_predecessors.Goals as goal
 
-pub returns-then-not-is_sound : goal.returns-then-not-is_sound
-returns-then-not-is_sound c =
-    let a = c.args in
-    predecessors_unsound a.g a.executed.now a.v.0 a.buffer.now (sym c.is_sound.ensures ∙ c.if-not-is_sound.true)
-
-pub returns-then-n-to_index : goal.returns-then-n-to_index
-returns-then-n-to_index c =
-    let told : sound c.args.g ≡ true = sym c.is_sound.ensures ∙ c.if-not-is_sound.false in
-    let a = c.args in
-    predecessors_absent a.g a.executed.now a.v.0 a.buffer.now (told) (omega (arith, c.to_index.ensures, c.if-n-to_index.true))
-
-pub neighbours_of-mark-requires : goal.neighbours_of-mark-requires
-neighbours_of-mark-requires c =
-    let told : sound c.args.g ≡ true = sym c.is_sound.ensures ∙ c.if-not-is_sound.false in
-    let sound-of : Sound c.args.g = let g = c.args.g in sound_told g (dag_sized g _ c.well_formed.0).commuting.list (told) in
-    let low : c.args.v.0 < c.args.g.nodes.count = omega (arith, c.to_index.ensures, c.if-n-to_index.false) in
-    let node-low : c.args.v.0 < 512 = omega (arith, low, (sound-of).node-count) in
-    (node-low, ends_back _ (sound-of))
-
-pub answer_kept-requires : goal.answer_kept-requires
-answer_kept-requires c =
-    let told : sound c.args.g ≡ true = sym c.is_sound.ensures ∙ c.if-not-is_sound.false in
-    let sound-of : Sound c.args.g = let g = c.args.g in sound_told g (dag_sized g _ c.well_formed.0).commuting.list (told) in
-    (sound-of).node-count
+pub returns-in_err-check_node : goal.returns-in_err-check_node
+unfolding blocking_predecessors
+returns-in_err-check_node c =
+    let p = err_from_is_err_and c.from_residual.result c.from_residual.ensures.1 in
+    rw (p.1, p.2) (not-asked _ _ _ _ _ (sym c.check_node.ensures.value ∙ c.in_err-check_node.was))
 
 pub returns : goal.returns
 returns c =
-    let told : sound c.args.g ≡ true = sym c.is_sound.ensures ∙ c.if-not-is_sound.false in
-    let sound-of : Sound c.args.g = let g = c.args.g in sound_told g (dag_sized g _ c.well_formed.0).commuting.list (told) in
-    let low : c.args.v.0 < c.args.g.nodes.count = omega (arith, c.to_index.ensures, c.if-n-to_index.false) in
     let a = c.args in
-    predecessors_answers a.g (sound-of) (told) a.v.0 (low) a.buffer.now _ c.neighbours_of-mark.result c.listed-skip.result a.executed.now
-    c.neighbours_of-mark.ensures c.listed-skip.ensures c.answer_kept.ensures
+    let n = asked a.g a.v.0 _ (dag_sized a.g _ c.well_formed.0).commuting.list (sym c.check_node.ensures.value ∙ c.in_ok-check_node.was) in
+    predecessors_answers a.g n.is_sound n.told a.v.0 n.low a.buffer.now _ c.neighbours_of-mark.result c.listed.result a.executed.now
+    c.neighbours_of-mark.ensures c.listed.ensures c.answer_kept.ensures

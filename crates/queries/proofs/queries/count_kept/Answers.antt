@@ -14,6 +14,3 @@ loop-u-preserved c = elim c.if-is_kept.branch [
   | then-is_kept w ↦ counts_one _ _ _ _ _ _ c.loop-u.invariant c.loop-u-test.true _ c.is_kept.ensures w.if-is_kept.true w.k-is
   | else-is_kept w ↦ counts_not _ _ _ _ _ _ c.loop-u.invariant c.loop-u-test.true _ c.is_kept.ensures w.if-is_kept.false w.k-is
 ]
-
-pub returns : goal.returns
-returns c = counts_all _ _ _ _ _ c.loop-u.invariant c.loop-u-test.false

@@ -1,15 +1,13 @@
-use Rattle.queries.proofs.MarkLaws.{lists-none, lists_one, lists_other, lists_all}
+use Rattle.queries.proofs.MarkLaws.{lists-none, lists_one, lists_other}
 use Rattle.queries.proofs.queries.listed.Goals as goal
 use Rattle.queries.proofs.queries.listed.Goals.{then-u-lt512, else-u-lt512}
+use Rattle.std.proofs.Common.{refl, arith}
 
-pub loop-i-init : goal.loop-i-init
-loop-i-init c = lists-none _
+pub loop-u-init : goal.loop-u-init
+loop-u-init c = lists-none _
 
-pub loop-i-preserved : goal.loop-i-preserved
-loop-i-preserved c = elim c.if-u-lt512.branch [
-  | then-u-lt512 w ↦ lists_one _ _ _ c.loop-i.invariant c.loop-i-test.true _ c.to_index-u.ensures _ w.if-u-lt512.true w.r-is
-  | else-u-lt512 w ↦ lists_other _ _ _ c.loop-i.invariant c.loop-i-test.true _ c.to_index-u.ensures _ w.if-u-lt512.false w.r-is
+pub loop-u-preserved : goal.loop-u-preserved
+loop-u-preserved c = elim c.if-u-lt512.branch [
+  | then-u-lt512 w ↦ lists_one _ _ _ c.loop-u.invariant c.loop-u-test.true _ w.from.ensures _ (omega (arith, w.if-u-lt512.true, w.from.ensures)) w.r-is
+  | else-u-lt512 w ↦ lists_other _ _ _ c.loop-u.invariant c.loop-u-test.true _ refl _ w.if-u-lt512.false w.r-is
 ]
-
-pub returns : goal.returns
-returns c = lists_all _ _ _ c.loop-i.invariant c.loop-i-test.false

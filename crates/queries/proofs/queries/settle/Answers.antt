@@ -1,32 +1,8 @@
-use mathlib.Core.Path.{◌≡◌}
-use Prim.Native.Nat.{◌-◌, ◌<◌}
-use native.Mathlib.Omega.{arith}
-use Rattle.queries.proofs.MarkLaws.{settles_none, settles_one, settles_all}
+use Rattle.queries.proofs.MarkLaws.{ends_fewer, settles_none, settles_one}
 use Rattle.queries.proofs.queries.settle.Goals as goal
 
 pub loop-i-init : goal.loop-i-init
-loop-i-init c = settles_none _ _ _ _ c.requires.0 c.requires.1 c.requires.2
-
-pub bounds-mark-a : goal.bounds-mark-a
-bounds-mark-a c =
-    let near-low : c.to_index-a.result < 512 = omega (arith, c.loop-i.invariant.ends.near_below (c.loop-i.i - 1) (omega (arith, c.loop-i-test.true, c.loop-i.invariant.low)), c.to_index-a.ensures) in
-    near-low
-
-pub bounds-mark-b : goal.bounds-mark-b
-bounds-mark-b c =
-    let far-low : c.to_index-b.result < 512 = omega (arith, c.loop-i.invariant.ends.far_below (c.loop-i.i - 1) (omega (arith, c.loop-i-test.true, c.loop-i.invariant.low)), c.to_index-b.ensures) in
-    far-low
-
-pub bounds-mark-a-in-loop-i : goal.bounds-mark-a-in-loop-i
-bounds-mark-a-in-loop-i c =
-    let near-low : c.to_index-a.result < 512 = omega (arith, c.loop-i.invariant.ends.near_below (c.loop-i.i - 1) (omega (arith, c.loop-i-test.true, c.loop-i.invariant.low)), c.to_index-a.ensures) in
-    near-low
+loop-i-init c = settles_none _ _ _ _ (ends_fewer _ _ _ _ c.requires.0 c.args.arcs.now.below) c.requires.1 c.told-mark
 
 pub loop-i-preserved : goal.loop-i-preserved
-loop-i-preserved c =
-    settles_one _ _ _ _ _ _ c.loop-i.invariant c.loop-i-test.true _ _ c.to_index-a.ensures c.to_index-b.ensures
-
-pub returns : goal.returns
-returns c =
-    let z : c.loop-i.i ≡ 0 = omega (arith, c.loop-i-test.false) in
-    settles_all _ _ _ _ _ (rw z at c.loop-i.invariant)
+loop-i-preserved c = settles_one _ _ _ _ _ _ c.loop-i.invariant c.loop-i-test.true _ _ c.near_end.ensures.value c.far_end.ensures.value

@@ -1,45 +1,54 @@
-use mathlib.Core.Path.{sym, ◌∙◌}
-use Rattle.file.proofs.RecordLaws.{parsed_good}
+use Rattle.std.proofs.Common.{refl, sym, ap, ◌∙◌}
+use borrow.Author.Tests.{le-leb}
+use Rattle.file.specs.declared.Record.{Record}
+use Rattle.file.proofs.RecordLaws.{parsed_good, not_parsed}
 use Rattle.graph.proofs.SizeLaws.{registers_sized}
-use Rattle.registers.proofs.MapLaws.{by_parsed, both_lent, not-maps, broken, no_node, too_many, entered, no_register}
+use Rattle.registers.specs.Registers.{register_record}
+use Rattle.registers.proofs.MapLaws.{both_lent, too_many, entered, nothing}
 use Rattle.registers.proofs.maps.register_record.Goals as goal
 
 pub returns-then-not-maps_fit : goal.returns-then-not-maps_fit
-returns-then-not-maps_fit c =
-    let a = c.args in
-    c.maps_kept.ensures ∙ not-maps a.first a.last a.v _ c.maps_fit.ensures a.i a.part.now c.if-not-maps_fit.true-raw
+unfolding register_record
+returns-then-not-maps_fit c = c.maps_kept.ensures ∙ rw (← c.maps_fit.ensures, c.if-not-maps_fit.true) refl
 
-pub returns-in-Refused : goal.returns-in-Refused
-returns-in-Refused c =
-    let a = c.args in
-    c.maps_kept-in-Refused.ensures
-    ∙ broken a.first a.last a.v _ c.maps_fit.ensures a.i a.part.now
-    c.if-not-maps_fit.false-raw _
-    (sym c.parse_record-parsed.ensures ∙ c.in-Refused.is) _ c.at_record.ensures
+pub returns-in-Err : goal.returns-in-Err
+unfolding register_record
+returns-in-Err c =
+    let h = not_parsed _ _ (sym c.in-Err.ensures) in
+    c.maps_kept-in-Err.ensures ∙ rw (← c.maps_fit.ensures, c.if-not-maps_fit.false, h.0, c.at_record.ensures, h.1) refl
 
 pub returns-then-v-ge512 : goal.returns-then-v-ge512
+unfolding register_record
 returns-then-v-ge512 c =
-    let a = c.args in
-    let p = parsed_good _ _ (sym c.parse_record-parsed.ensures ∙ c.in-Record.is) in
-    c.maps_kept-then-v-ge512.ensures ∙ no_node a.first a.last a.v _ c.maps_fit.ensures a.i a.part.now c.if-not-maps_fit.false-raw p.0 c.if-v-ge512.true
+    let p = parsed_good _ _ (sym c.in-Ok.ensures) in
+    c.maps_kept-then-v-ge512.ensures ∙ rw (← c.maps_fit.ensures, c.if-not-maps_fit.false, p.0, le-leb 512 c.args.v.0 c.if-v-ge512.true) refl
 
 pub returns-in-None : goal.returns-in-None
 returns-in-None c =
-    let p = parsed_good _ _ (sym c.parse_record-parsed.ensures ∙ c.in-Record.is) in
-    no_register c.args.first c.args.last c.args.v _ c.maps_fit.ensures c.args.i c.args.part.now c.if-not-maps_fit.false-raw p.0 c.if-v-ge512.false (registers_sized c.args.first _ c.well_formed.1.0) (registers_sized c.args.last _ c.well_formed.1.1.0) _ p.1 c.in-None.is _ c.to_index.ensures
+    let p = parsed_good _ _ (sym c.in-Ok.ensures) in
+    let t = sym c.maps_fit.ensures ∙ c.if-not-maps_fit.false in
+    let f = both_lent _ _ _ (registers_sized c.args.first _ c.well_formed.1.0) (registers_sized c.args.last _ c.well_formed.1.1.0) t in
+    c.maps_held.ensures
+    ∙ rw c.from-n.ensures (entered _ _ _ _ _ t p.0 c.if-v-ge512.false _ _ f.0 f.1 (nothing _ _ _ _ (sym c.in-None.is ∙ ap (λ (x : Record). x.classical) p.1) f.0 f.1))
 
-pub enter_record-m-requires : goal.enter_record-m-requires
-enter_record-m-requires c =
-    both_lent c.args.first c.args.last c.args.v _ c.maps_fit.ensures (registers_sized c.args.first _ c.well_formed.1.0) (registers_sized c.args.last _ c.well_formed.1.1.0) c.if-not-maps_fit.false-raw
+pub of-new_first-requires : goal.of-new_first-requires
+of-new_first-requires c =
+    (both_lent _ _ _ (registers_sized c.args.first _ c.well_formed.1.0) (registers_sized c.args.last _ c.well_formed.1.1.0) (sym c.maps_fit.ensures ∙ c.if-not-maps_fit.false)).0
 
-pub returns-then-maps_pass : goal.returns-then-maps_pass
-returns-then-maps_pass c =
-    let a = c.args in
-    let p = parsed_good _ _ (sym c.parse_record-parsed.ensures ∙ c.in-Record.is) in
-    c.maps_kept-then-maps_pass.ensures ∙ too_many a.first a.last a.v _ c.maps_fit.ensures a.i a.part.now c.if-not-maps_fit.false-raw p.0 c.if-v-ge512.false _ _ (by_parsed a.part.now a.v.0 a.first a.last _ _ _ p.1 c.enter_record-m.ensures) (sym c.maps_pass.ensures ∙ c.if-maps_pass.true)
+pub of-new_last-requires : goal.of-new_last-requires
+of-new_last-requires c =
+    (both_lent _ _ _ (registers_sized c.args.first _ c.well_formed.1.0) (registers_sized c.args.last _ c.well_formed.1.1.0) (sym c.maps_fit.ensures ∙ c.if-not-maps_fit.false)).1
+
+pub returns-in-Err-enter_record : goal.returns-in-Err-enter_record
+returns-in-Err-enter_record c =
+    let p = parsed_good _ _ (sym c.in-Ok.ensures) in
+    let t = sym c.maps_fit.ensures ∙ c.if-not-maps_fit.false in
+    c.maps_kept-in-Err-enter_record.ensures ∙ too_many _ _ _ _ _ t p.0 c.if-v-ge512.false (rw (c.of-new_first.ensures, c.of-new_last.ensures) at c.in-Err-enter_record.ensures)
 
 pub returns : goal.returns
 returns c =
-    let a = c.args in
-    let p = parsed_good _ _ (sym c.parse_record-parsed.ensures ∙ c.in-Record.is) in
-    c.maps_held.ensures ∙ entered a.first a.last a.v _ c.maps_fit.ensures a.i a.part.now c.if-not-maps_fit.false-raw p.0 c.if-v-ge512.false _ _ (by_parsed a.part.now a.v.0 a.first a.last _ _ _ p.1 c.enter_record-m.ensures) (sym c.maps_pass.ensures ∙ c.if-maps_pass.false) _ c.to_index-2.ensures
+    let p = parsed_good _ _ (sym c.in-Ok.ensures) in
+    let t = sym c.maps_fit.ensures ∙ c.if-not-maps_fit.false in
+    c.maps_held-2.ensures
+    ∙ rw c.from-n.ensures (entered _ _ _ _ _ t p.0 c.if-v-ge512.false _ _ c.enter_record.new.first.fits c.enter_record.new.last.fits
+    (rw (c.of-new_first.ensures, c.of-new_last.ensures) at c.in_default-enter_record.ensures))

@@ -1,34 +1,20 @@
-use mathlib.Core.Path.{◌≡◌, sym, ◌∙◌}
-use mathlib.Core.Bool.{true}
-use Rattle.graph.specs.Soundness.{sound}
-use Rattle.walk.proofs.BlockLaws.{W}
-use Rattle.walk.proofs.WholeLaws.{walk_unsound, walk_short, walk_whole}
+use Rattle.std.proofs.Common.{sym, ◌∙◌, rules}
+use Rattle.std.proofs.lemmas.Result.{err_from_is_err_and}
+use Rattle.queries.proofs.QueryLaws.{sound_ok}
+use Rattle.walk.proofs.NumberingLaws.{written}
+use Rattle.walk.proofs.WholeLaws.{walk_refused, walk_short, walk_whole}
 use Rattle.walk.proofs.whole.whole_walk.Goals as goal
 
-pub returns-then-not-is_sound : goal.returns-then-not-is_sound
-returns-then-not-is_sound c = walk_unsound _ _ (sym c.is_sound.ensures ∙ c.if-not-is_sound.true)
+pub returns-in_err-check_sound : goal.returns-in_err-check_sound
+returns-in_err-check_sound c =
+    let p = err_from_is_err_and c.from_residual.result c.from_residual.ensures.1 in
+    rw (p.1, p.2) (walk_refused _ _ _ (sym c.check_sound.ensures.value ∙ c.in_err-check_sound.was))
 
 pub returns-then-buffer-n : goal.returns-then-buffer-n
-returns-then-buffer-n c =
-    let accepted : sound c.args.g ≡ true = sym c.is_sound.ensures ∙ c.if-not-is_sound.false in
-    walk_short _ _ (accepted) c.if-buffer-n.true
-
-pub numbers_of-num-requires : goal.numbers_of-num-requires
-numbers_of-num-requires c =
-    let accepted : sound c.args.g ≡ true = sym c.is_sound.ensures ∙ c.if-not-is_sound.false in
-    accepted
-
-pub write_numbers-requires : goal.write_numbers-requires
-write_numbers-requires c =
-    let accepted : sound c.args.g ≡ true = sym c.is_sound.ensures ∙ c.if-not-is_sound.false in
-    ((W _ (accepted)).cap, c.if-buffer-n.false)
-
-pub count_blocks-count-requires : goal.count_blocks-count-requires
-count_blocks-count-requires c =
-    let accepted : sound c.args.g ≡ true = sym c.is_sound.ensures ∙ c.if-not-is_sound.false in
-    (W _ (accepted)).cap
+returns-then-buffer-n c = walk_short _ _ (sound_ok _ _ (sym c.check_sound.ensures.value ∙ c.in_ok-check_sound.was)) c.if-buffer-n.true
 
 pub returns : goal.returns
 returns c =
-    let accepted : sound c.args.g ≡ true = sym c.is_sound.ensures ∙ c.if-not-is_sound.false in
-    walk_whole _ _ (accepted) c.if-buffer-n.false _ _ _ c.numbers_of-num.ensures c.count_blocks-count.ensures c.write_numbers.ensures
+    let told = sound_ok _ _ (sym c.check_sound.ensures.value ∙ c.in_ok-check_sound.was) in
+    walk_whole _ _ told c.if-buffer-n.false c.numbers_of-num.result _ _ c.numbers_of-num.ensures c.count_blocks.ensures
+    (written _ _ _ _ c.in_ok-check_sound.ensures.counts.nodes (search rules) c.if-buffer-n.false c.copy_from_slice.ensures.after)

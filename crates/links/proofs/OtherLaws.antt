@@ -1,0 +1,80 @@
+-- The nodes that a record's node is joined with. Assumes nothing.
+use Rattle.std.proofs.Common.{◌≡◌, refl, sym, inl, inr, true, false, cond, List, [], ◌∷◌, ◌++◌, map, ℕ, suc, ◌+◌, ◌≤◌, ◌<◌, length, get_or, set, take}
+use Rattle.std.proofs.Common.{drop, nat_eq, arith, add-one, drop-cons, length-set}
+use Rattle.std.proofs.lemmas.List.{map-append}
+use Rattle.std.specs.List.{list_any}
+use lib.Seq.{take-suc, take-suc-set, drop-set-lt}
+use borrow.Author.Tests.{eqb-true, eqb-false, eq-eqb, ne_eqb}
+use Rattle.file.specs.Lists.{any_of, member}
+use Rattle.file.proofs.BoolLaws.{bool_cases}
+use Rattle.graph.specs.Dag.{absent, present}
+use Rattle.graph.proofs.ListLaws.{any_here, any-later}
+use Rattle.links.specs.Links.{mapped}
+use Rattle.links.proofs.LinkLaws.{add_present, add-length}
+
+eqb-turns : (x y : ℕ) → nat_eq x y ≡ nat_eq y x
+eqb-turns x y = elim (bool_cases (nat_eq x y)) [
+  | inl t ↦ rw t (sym (eq-eqb y x (sym (eqb-true x y t))))
+  | inr f ↦ rw f (sym (ne_eqb y x (λ e. eqb-false x y f (sym e))))
+]
+
+-- std's search of a slice
+pub listed : (s : ℕ) (l : List ℕ) → list_any (λ y. nat_eq y s) l ≡ member s l
+unfolding any_of
+listed s [] = refl
+listed s (y ∷ l) = elim (bool_cases (nat_eq s y)) [
+  | inl t ↦ rw (any_here (nat_eq s) y l t, eqb-turns y s, t) refl
+  | inr f ↦ rw (any-later (nat_eq s) y l f, eqb-turns y s, f) (listed s l)
+]
+
+-- ---- the number 65535
+
+pub is-present : (x : ℕ) → (x ≡ absent → ⊥) → present x ≡ true
+is-present x h = rw (ne_eqb x absent h) refl
+
+pub is-absent : (x : ℕ) → x ≡ absent → present x ≡ false
+is-absent x e = rw (eq-eqb x absent e) refl
+
+-- ---- every node in a map
+
+-- an entry after v
+abbrev pub becomes : ℕ → ℕ → ℕ
+becomes v u = cond (present u) v u
+
+-- the entries below i are v where they named a node, and the others are these nodes
+pub record Mapping (v : ℕ) (before now others : List ℕ) (i : ℕ) : Type 0 where
+  pub size : length now ≡ length before
+  pub done : take i now ≡ map (becomes v) (take i before)
+  pub kept : drop i now ≡ drop i before
+  pub joined : others ≡ mapped (take i before) []
+  pub few : length others ≤ i
+
+mapped_more : (l seen : List ℕ) (x : ℕ) → mapped (l ++ (x ∷ [])) seen ≡ add_present x (mapped l seen)
+unfolding mapped
+mapped_more [] seen x = refl
+mapped_more (y ∷ l) seen x = mapped_more l (add_present y seen) x
+
+module _ (v : ℕ) (before : List ℕ) where
+  pub mapping_begins : (others : List ℕ) → others ≡ [] → Mapping v before before others 0
+  unfolding mapped
+  mapping_begins others e = record { size = refl; done = refl; kept = refl; joined = e; few = rw e (omega arith) }
+
+  module _ (now others : List ℕ) (i : ℕ) (m : Mapping v before now others i) (within : i < length before) where
+    r : i < length now
+    r = omega (arith, m.size)
+
+    same_entry : get_or now i 0 ≡ get_or before i 0
+    same_entry = let a = drop-cons now i 0 r in let b = drop-cons before i 0 within in cc (m.kept)
+
+    same_rest : drop (suc i) now ≡ drop (suc i) before
+    same_rest = let a = drop-cons now i 0 r in let b = drop-cons before i 0 within in cc (m.kept)
+
+    pub mapping_goes : (now' others' : List ℕ) → now' ≡ set now i (becomes v (get_or now i 0)) → others' ≡ add_present (get_or now i 0) others
+        → Mapping v before now' others' (i + 1)
+    mapping_goes now' others' en eo = record {
+      size = rw (en, length-set) m.size;
+      done = rw (en, add-one, take-suc-set now i (becomes v (get_or now i 0)) r, take-suc before i 0 within, map-append, same_entry, m.done) refl;
+      kept = rw (en, add-one, drop-set-lt (suc i) now i (becomes v (get_or now i 0)) (omega arith)) same_rest;
+      joined = rw (eo, m.joined, add-one, take-suc before i 0 within, same_entry) (sym (mapped_more (take i before) [] (get_or before i 0)));
+      few = rw eo (omega (arith, add-length (get_or now i 0) others, m.few));
+    }

@@ -1,9 +1,0 @@
-use mathlib.Core.Path.{refl}
-use Rattle.links.proofs.LinkLoops.{is-present, is-absent}
-use Rattle.links.proofs.ends.set_new.Goals as goal
-
-pub returns-then-old-eq65535 : goal.returns-then-old-eq65535
-returns-then-old-eq65535 c = rw (is-absent _ c.if-old-eq65535.true) c.set_node.ensures
-
-pub returns-else-old-eq65535 : goal.returns-else-old-eq65535
-returns-else-old-eq65535 c = rw (is-present _ c.if-old-eq65535.false) refl

@@ -1,0 +1,97 @@
+// The distinct nodes that the node of a record is joined with, and the edges to them.
+ghost use Rattle.std.specs.Prelude.{◌≡◌, cond, List, [], map, ℕ, ◌+◌, ◌≤◌, ◌<◌, length, take};
+ghost use Rattle.file.specs.Lists.{member, add};
+ghost use Rattle.graph.specs.Dag.{present, with_edges};
+ghost use Rattle.links.specs.Links.{link};
+ghost use Rattle.links.specs.Ends.{with_edge};
+
+use graph::{Edges, NodeIndex};
+use std::marker::Model;
+
+// At most 64 nodes, in the order in which they came.
+#[derive(Drop)]
+pub(crate) struct Others {
+    node: [u16; 64],
+    count: usize,
+}
+
+impl Model for Others {
+    ghost Value = { List ℕ };
+
+    ghost view = { λ o. take o.count o.node };
+
+    ghost invariant = { λ o. o.count ≤ 64 };
+}
+
+impl Others {
+    pub(crate) fn new() -> Others
+        ensures { result ≡ [] }
+    {
+        Others {
+            node: [0; 64],
+            count: 0,
+        }
+    }
+
+    pub(crate) fn clear(&mut self)
+        ensures { self.new ≡ [] }
+    {
+        self.count = 0;
+    }
+
+    pub(crate) fn len(&self) -> usize
+        ensures counted { result ≡ length self.now }
+        ensures few { result ≤ 64 }
+    {
+        self.count
+    }
+
+    // By a for: contains and any were slower. contains reads entries together, and waits for those that were just written.
+    fn holds(&self, s: NodeIndex) -> bool
+        ensures { result ≡ member s.0 self.now }
+    {
+        for u in &self.node[..self.count] {
+            if *u == s.0 {
+                return true;
+            }
+        }
+        false
+    }
+
+    // The node s, where there is one, joins them unless it is among them.
+    pub(crate) fn add(&mut self, s: NodeIndex)
+        requires { length self.old < 64 }
+        ensures { self.new ≡ cond (present s.0) (add s.0 self.old) self.old }
+    {
+        if s.0 == 65535 {
+            return;
+        }
+        if self.holds(s) {
+            return;
+        }
+        self.node[self.count] = s.0;
+        self.count += 1;
+    }
+}
+
+// Edge number `at` joins u and v: into v at the back, out of v at the front.
+fn put_edge(edges: &mut Edges, at: usize, front: bool, v: NodeIndex, u: u16)
+    requires { at < 2048 }
+    ensures { edges.new ≡ with_edge edges.old at (link front v.0 u) }
+{
+    let (from, to) = if front { (v.0, u) } else { (u, v.0) };
+    edges.from[at] = from;
+    edges.to[at] = to;
+}
+
+// The edges of v with the others, behind those that stand.
+pub(crate) fn add_edges(edges: &mut Edges, front: bool, v: NodeIndex, others: &Others)
+    requires { edges.old.count + length others.now ≤ 2048 }
+    ensures { edges.new ≡ with_edges edges.old (map (link front v.0) others.now) }
+{
+    let count = edges.count;
+    for (i, u) in others.node[..others.count].iter().enumerate() {
+        put_edge(edges, count + i, front, v, *u);
+    }
+    edges.count = count + others.count;
+}
