@@ -11,7 +11,6 @@ use Rattle.file.specs.declared.InvolvedQubits.{InvolvedQubits}
 use Rattle.file.specs.declared.InvolvedQubits.TheVariants.{None, All, Set}
 use Rattle.file.specs.declared.InvolvedClassical.{InvolvedClassical}
 use Rattle.file.specs.declared.InvolvedClassical.TheVariants.{None as NoRegister, All as AllOf, AllQubits, Set as SetOf, Definition}
-use Rattle.file.specs.Pairs.{stands_at}
 
 -- "byte 0, end: 0 back, 1 front"; "Byte 0 alone makes an insertion a back or a front one"
 abbrev pub front : List ℕ → Bool

@@ -4,14 +4,8 @@ ghost use Rattle.file.specs.Pairs.{number_at, count_of, offset_of, length_of, he
 
 use crate::{Place, RecordPart, Refusal};
 
-// A number of two bytes, to count and index with. A call, since `a[i] as usize` would ask that the element fits.
-pub fn to_index(x: u16) -> usize
-    ensures { result ≡ x }
-{
-    x as usize
-}
-
 // The field of two bytes at a place.
+#[tactic(auto, unfolding(crate::specs::Pairs::number_at))]
 pub(crate) fn read_u16(s: &[u8], at: usize) -> usize
     requires { at + 1 < length s.now }
     ensures { (result ≡ number_at s.now at 2) × (result < 65536) }
@@ -20,6 +14,7 @@ pub(crate) fn read_u16(s: &[u8], at: usize) -> usize
 }
 
 // The same anywhere: a byte past the end counts as 0.
+#[tactic(auto, unfolding(crate::specs::Pairs::number_at), using(crate::proofs::PairLaws::field_past))]
 pub(crate) fn field_at(s: &[u8], at: usize) -> u16
     ensures { result ≡ number_at s.now at 2 }
 {
@@ -33,7 +28,7 @@ pub(crate) fn field_at(s: &[u8], at: usize) -> u16
 pub fn byte_at(s: &[u8], at: usize) -> u8
     ensures { result ≡ get_or s.now at 0 }
 {
-    if at < s.len() { s[at] } else { 0 }
+    s.get(at).copied().unwrap_or(0)
 }
 
 // The header's record count, of any bytes.

@@ -11,6 +11,7 @@ use crate::{InvolvedClassical, InvolvedQubits, Record, Refusal, RegisterKey};
 const MOST_ENTRIES: usize = 24;
 
 // The mask, bytes 3 to 10.
+#[tactic(auto, unfolding(crate::specs::Pairs::number_at))]
 fn read_mask(s: &[u8]) -> u64
     requires { 14 ≤ length s.now }
     ensures { result ≡ number_at s.now 3 8 }
@@ -50,23 +51,18 @@ fn is_empty_set(form: u8, mask: u64) -> bool
 }
 
 // Entry k comes before the next one: by name, then index.
+#[tactic(auto, unfolding(crate::specs::Records::entry_before))]
 fn entry_before(s: &[u8], k: usize) -> bool
     requires { (k < 256) × (15 + 3 * (k + 2) ≤ length s.now) }
     ensures { result ≡ entry_before s.now k }
 {
-    let x = s[15 + 3 * k];
-    let y = s[15 + 3 * (k + 1)];
-    if x < y {
-        return true;
-    }
-    if x == y {
-        let i = read_u16(s, 16 + 3 * k);
-        let j = read_u16(s, 16 + 3 * (k + 1));
-        return i < j;
-    }
-    false
+    let this = (s[15 + 3 * k], read_u16(s, 16 + 3 * k));
+    let next = (s[15 + 3 * (k + 1)], read_u16(s, 16 + 3 * (k + 1)));
+    this < next
 }
 
+// The entries come in this order. A loop: of `all` over the numbers a lemma would have to say what the recursion of
+// ascend_from says.
 fn is_ascending(s: &[u8], c: usize) -> bool
     requires { (c < 256) × (15 + 3 * c ≤ length s.now) }
     ensures { result ≡ ascend_from (c - 1) 0 s.now }
@@ -80,21 +76,12 @@ fn is_ascending(s: &[u8], c: usize) -> bool
 }
 
 // A tail with a count byte and its entries.
+#[tactic(auto, unfolding(crate::specs::Records::set_rule))]
 fn is_set(s: &[u8]) -> bool
-    requires { 14 ≤ length s.now }
     ensures { result ≡ set_rule s.now }
 {
-    if s.len() < 15 {
-        return false;
-    }
-    let c = usize::from(s[14]);
-    if s.len() != 15 + 3 * c {
-        return false;
-    }
-    if MOST_ENTRIES < c {
-        return false;
-    }
-    is_ascending(s, c)
+    let c = usize::from(byte_at(s, 14));
+    s.len() == 15 + 3 * c && c <= MOST_ENTRIES && is_ascending(s, c)
 }
 
 // The register form, and what it asks of the tail.
@@ -104,8 +91,7 @@ fn tail_fits(s: &[u8]) -> bool
     ensures { result ≡ tail_rule s.now }
 {
     let size = s.len();
-    let form = s[11];
-    match form {
+    match s[11] {
         0 => size == 14,
         1 | 2 => size == 15,
         3 => is_set(s),
@@ -131,11 +117,7 @@ fn involved_qubits(form: u8, mask: u64) -> InvolvedQubits
 pub fn involved_classical(part: &[u8]) -> InvolvedClassical
     ensures { result ≡ classical_of part.now }
 {
-    if part.len() < 12 {
-        return InvolvedClassical::None;
-    }
-    let form = part[11];
-    match form {
+    match byte_at(part, 11) {
         0 => InvolvedClassical::None,
         1 => InvolvedClassical::All(byte_at(part, 14)),
         2 => InvolvedClassical::AllQubits(byte_at(part, 14)),
@@ -226,10 +208,7 @@ pub fn register_key(part: &[u8], k: usize) -> RegisterKey
     ensures { result ≡ key_at part.now k }
 {
     let size = part.len();
-    if size < 16 {
-        return RegisterKey { name: 0, index: 0 };
-    }
-    if (size - 16) / 3 < k {
+    if size < 16 || (size - 16) / 3 < k {
         return RegisterKey { name: 0, index: 0 };
     }
     RegisterKey {

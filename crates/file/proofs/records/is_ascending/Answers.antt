@@ -1,4 +1,4 @@
-use Rattle.std.proofs.Common.{◌≡◌, ◌-◌, refl, sym, ◌∙◌, true, false, arith}
+use Rattle.std.proofs.Common.{refl, sym, ◌∙◌, true, false, arith}
 use Rattle.file.proofs.RecordLaws.{ascend_turn, ascend_end}
 use Rattle.file.proofs.records.is_ascending.Goals as goal
 
