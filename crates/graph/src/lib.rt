@@ -1,5 +1,6 @@
 // The circuit dependency graph with two open ends: its types, sets of nodes, the empty graph, and which graphs are sound. The rules are in specs/.
-// Every array holds plain numbers, so that a part of the graph can be lent to a function in place.
+// Every array holds plain numbers, so that a part of the graph can be lent to a function in place. Columns stand side by
+// side, with a count of their own: the graph crosses to C as it is, and its memory is fixed (no Vec, no map).
 #![tactic(auto)]
 
 pub mod checking;
@@ -85,6 +86,7 @@ pub struct CircuitDag {
 }
 
 // An end that names no node.
+#[tactic(auto, unfolding(crate::specs::Dag::no_end))]
 pub fn no_end() -> End
     ensures { result ≡ no_end }
 {
@@ -96,6 +98,7 @@ pub fn no_end() -> End
 }
 
 // A register map without entries.
+#[tactic(auto, unfolding(crate::specs::Dag::no_registers))]
 pub fn no_registers() -> Registers
     ensures { result ≡ no_registers }
 {
@@ -108,7 +111,8 @@ pub fn no_registers() -> Registers
 }
 
 // No nodes.
-fn no_nodes() -> Nodes
+#[tactic(auto, unfolding(crate::specs::Dag::empty))]
+pub fn no_nodes() -> Nodes
     ensures { result ≡ empty.nodes }
 {
     Nodes {
@@ -121,6 +125,7 @@ fn no_nodes() -> Nodes
 }
 
 // No edges.
+#[tactic(auto, unfolding(crate::specs::Dag::empty))]
 pub fn no_edges() -> Edges
     ensures { result ≡ empty.edges }
 {
@@ -131,8 +136,20 @@ pub fn no_edges() -> Edges
     }
 }
 
+// A commuting list without nodes.
+#[tactic(auto, unfolding(crate::specs::Dag::empty))]
+pub fn no_commuting() -> Commuting
+    ensures { result ≡ empty.commuting }
+{
+    Commuting {
+        count: 0,
+        list: [0; 512],
+    }
+}
+
 impl CircuitDag {
     // The empty graph.
+    #[tactic(auto, unfolding(crate::specs::Dag::empty))]
     pub fn new() -> CircuitDag
         ensures { result ≡ empty }
     {
@@ -143,10 +160,7 @@ impl CircuitDag {
             last: no_end(),
             first_registers: no_registers(),
             last_registers: no_registers(),
-            commuting: Commuting {
-                count: 0,
-                list: [0; 512],
-            },
+            commuting: no_commuting(),
             backs: 0,
             fronts: 0,
         }

@@ -143,7 +143,8 @@ impl<'a> Operations<'a> {
 
     // Every edge fits and no two are the same, for edges of which those with one older end and direction come in the
     // order of their newer ends, as insertion leaves them: a cell's stamp is the newer end of its last edge, plus 1.
-    // One pass with 2 KB of stamps; where it says no, the two slower ones of all_edges_fit decide.
+    // One pass with 2 KB of stamps; where it says no, the two slower ones of all_edges_fit decide. By the edge's number,
+    // here and below: a zip of the two columns would name the count twice and say no more.
     fn edges_ascend(&self) -> bool
         ensures { result ≡ true → (edges_fit self.now.g.now && edges_differ self.now.g.now.edges) ≡ true }
     {
