@@ -12,7 +12,7 @@ use queries::{answer_list, answer_marked};
 
 // What a node keeps.
 #[repr(C)]
-#[derive(Clone, Copy, Debug, PartialEq, Eq)]
+#[derive(Clone, Copy, Debug, Default, PartialEq, Eq)]
 pub struct KeptNode {
     pub kind: u8,
     pub form: u8,

@@ -4,7 +4,7 @@ ghost use Rattle.graph.specs.declared.CircuitDag.{CircuitDag};
 ghost use Rattle.accessors.specs.Accessors.{commuting_operations, first_parallel_block, last_parallel_block, get};
 ghost use Rattle.host.specs.Answers.{lent, on_dag, asked, got_of, involving_qubit, involving_key, key_of};
 
-use crate::answers::{no_operation, of_count, of_got, of_operation, refuse};
+use crate::answers::no_operation;
 use crate::crossing::{dag_of, is_dag};
 use crate::{HostAnswer, HostDag, HostNode};
 use accessors::KeptNode;
@@ -27,9 +27,9 @@ pub extern "C" fn sawhekonu_get(dag: HostDag, node: usize) -> HostNode
     ensures { result ≡ got_of dag node }
 {
     if !is_dag(&dag) {
-        return of_got(Err(Refusal::Unsound));
+        return HostNode::from(Err(Refusal::Unsound));
     }
-    of_got(get_node(dag_of(dag), node))
+    HostNode::from(get_node(dag_of(dag), node))
 }
 
 // The commuting list.
@@ -39,9 +39,9 @@ pub extern "C" fn sawhekonu_commuting_operations(dag: HostDag, buffer: &mut [u16
         ≡ on_dag dag buffer.old (λ (g : CircuitDag). lent (commuting_operations g buffer.old)) }
 {
     if !is_dag(&dag) {
-        return refuse(Refusal::Unsound);
+        return HostAnswer::from(Refusal::Unsound);
     }
-    of_count(accessors::commuting_operations(dag_of(dag), buffer))
+    HostAnswer::from(accessors::commuting_operations(dag_of(dag), buffer))
 }
 
 // The nodes of the first block.
@@ -51,9 +51,9 @@ pub extern "C" fn sawhekonu_first_parallel_block(dag: HostDag, buffer: &mut [u16
         ≡ on_dag dag buffer.old (λ (g : CircuitDag). lent (first_parallel_block g buffer.old)) }
 {
     if !is_dag(&dag) {
-        return refuse(Refusal::Unsound);
+        return HostAnswer::from(Refusal::Unsound);
     }
-    of_count(accessors::first_parallel_block(dag_of(dag), buffer))
+    HostAnswer::from(accessors::first_parallel_block(dag_of(dag), buffer))
 }
 
 // The nodes of the last block.
@@ -63,9 +63,9 @@ pub extern "C" fn sawhekonu_last_parallel_block(dag: HostDag, buffer: &mut [u16]
         ≡ on_dag dag buffer.old (λ (g : CircuitDag). lent (last_parallel_block g buffer.old)) }
 {
     if !is_dag(&dag) {
-        return refuse(Refusal::Unsound);
+        return HostAnswer::from(Refusal::Unsound);
     }
-    of_count(accessors::last_parallel_block(dag_of(dag), buffer))
+    HostAnswer::from(accessors::last_parallel_block(dag_of(dag), buffer))
 }
 
 // The first operation that involves a qubit; a qubit over 63 has none.
@@ -77,13 +77,13 @@ pub extern "C" fn sawhekonu_first_operation_involving_qubit(
     ensures { result ≡ asked dag (involving_qubit true qubit) }
 {
     if !is_dag(&dag) {
-        return refuse(Refusal::Unsound);
+        return HostAnswer::from(Refusal::Unsound);
     }
     let g = dag_of(dag);
     if 64 <= qubit {
         return no_operation(g);
     }
-    of_operation(accessors::first_operation_involving_qubit(g, Qubit(qubit as u8)))
+    HostAnswer::from(accessors::first_operation_involving_qubit(g, Qubit(qubit as u8)))
 }
 
 // The last operation that involves a qubit; a qubit over 63 has none.
@@ -92,13 +92,13 @@ pub extern "C" fn sawhekonu_last_operation_involving_qubit(dag: HostDag, qubit: 
     ensures { result ≡ asked dag (involving_qubit false qubit) }
 {
     if !is_dag(&dag) {
-        return refuse(Refusal::Unsound);
+        return HostAnswer::from(Refusal::Unsound);
     }
     let g = dag_of(dag);
     if 64 <= qubit {
         return no_operation(g);
     }
-    of_operation(accessors::last_operation_involving_qubit(g, Qubit(qubit as u8)))
+    HostAnswer::from(accessors::last_operation_involving_qubit(g, Qubit(qubit as u8)))
 }
 
 // A key that a map may have.
@@ -120,13 +120,13 @@ pub extern "C" fn sawhekonu_first_operation_involving_classical(
     ensures { result ≡ asked dag (involving_key true name index) }
 {
     if !is_dag(&dag) {
-        return refuse(Refusal::Unsound);
+        return HostAnswer::from(Refusal::Unsound);
     }
     let g = dag_of(dag);
     let Some(key) = key_of(name, index) else {
         return no_operation(g);
     };
-    of_operation(accessors::first_operation_involving_classical(g, key))
+    HostAnswer::from(accessors::first_operation_involving_classical(g, key))
 }
 
 // The last operation that involves an entry of a register; a name over 255 or an index over 65535 has none.
@@ -139,11 +139,11 @@ pub extern "C" fn sawhekonu_last_operation_involving_classical(
     ensures { result ≡ asked dag (involving_key false name index) }
 {
     if !is_dag(&dag) {
-        return refuse(Refusal::Unsound);
+        return HostAnswer::from(Refusal::Unsound);
     }
     let g = dag_of(dag);
     let Some(key) = key_of(name, index) else {
         return no_operation(g);
     };
-    of_operation(accessors::last_operation_involving_classical(g, key))
+    HostAnswer::from(accessors::last_operation_involving_classical(g, key))
 }

@@ -4,7 +4,6 @@ ghost use Rattle.graph.specs.declared.CircuitDag.{CircuitDag};
 ghost use Rattle.planning.specs.Chain.{chain};
 ghost use Rattle.host.specs.Answers.{lent, on_dag};
 
-use crate::answers::{of_count, refuse};
 use crate::crossing::{dag_of, is_dag};
 use crate::{HostAnswer, HostDag};
 use file::Refusal;
@@ -15,7 +14,7 @@ pub extern "C" fn sawhekonu_chain(dag: HostDag, buffer: &mut [u16]) -> HostAnswe
         ≡ on_dag dag buffer.old (λ (g : CircuitDag). lent (chain g buffer.old)) }
 {
     if !is_dag(&dag) {
-        return refuse(Refusal::Unsound);
+        return HostAnswer::from(Refusal::Unsound);
     }
-    of_count(planning::chain(dag_of(dag), buffer))
+    HostAnswer::from(planning::chain(dag_of(dag), buffer))
 }

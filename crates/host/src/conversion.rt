@@ -5,7 +5,6 @@ ghost use Rattle.queries.specs.Conversion.{to_circuit};
 ghost use Rattle.insertion.specs.Conversion.{from_circuit};
 ghost use Rattle.host.specs.Answers.{graph_loaded, lent, on_dag};
 
-use crate::answers::{of_count, of_loaded, refuse};
 use crate::crossing::{dag_of, is_dag};
 use crate::{HostAnswer, HostDag, HostGraph};
 use file::Refusal;
@@ -16,7 +15,7 @@ pub extern "C" fn sawhekonu_from_circuit(file: &[u8]) -> HostGraph
 {
     let x = insertion::from_circuit(file);
     HostGraph {
-        answer: of_loaded(x.answer),
+        answer: HostAnswer::from(x.answer),
         graph: HostDag::from(x.graph),
     }
 }
@@ -27,7 +26,7 @@ pub extern "C" fn sawhekonu_to_circuit(dag: HostDag, buffer: &mut [u16]) -> Host
         ≡ on_dag dag buffer.old (λ (g : CircuitDag). lent (to_circuit g buffer.old)) }
 {
     if !is_dag(&dag) {
-        return refuse(Refusal::Unsound);
+        return HostAnswer::from(Refusal::Unsound);
     }
-    of_count(queries::to_circuit(dag_of(dag), buffer))
+    HostAnswer::from(queries::to_circuit(dag_of(dag), buffer))
 }

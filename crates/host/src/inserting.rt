@@ -7,9 +7,8 @@ ghost use Rattle.insertion.specs.Load.{load_by, load};
 ghost use Rattle.host.specs.Answers.{graph_loaded, inserted_into, inserted_by};
 ghost use Rattle.host.specs.Marks.{host_of, host_sound};
 
-use crate::answers::{of_inserted, of_loaded, refuse};
 use crate::crossing::{dag_of, is_dag};
-use crate::{HostDag, HostGraph};
+use crate::{HostAnswer, HostDag, HostGraph};
 use file::Refusal;
 use graph::CircuitDag;
 use links::LoadingRule;
@@ -28,7 +27,7 @@ pub extern "C" fn sawhekonu_load(file: &[u8]) -> HostGraph
 {
     let x = insertion::load_by(LoadingRule::NearAll, file);
     HostGraph {
-        answer: of_loaded(x.answer),
+        answer: HostAnswer::from(x.answer),
         graph: HostDag::from(x.graph),
     }
 }
@@ -39,7 +38,7 @@ pub extern "C" fn sawhekonu_load_both_ends(file: &[u8]) -> HostGraph
 {
     let x = insertion::load_by(LoadingRule::FarAll, file);
     HostGraph {
-        answer: of_loaded(x.answer),
+        answer: HostAnswer::from(x.answer),
         graph: HostDag::from(x.graph),
     }
 }
@@ -50,13 +49,13 @@ fn insert_record(rule: LoadingRule, dag: HostDag, part: &[u8]) -> HostGraph
 {
     if !is_dag(&dag) {
         return HostGraph {
-            answer: refuse(Refusal::Unsound),
+            answer: HostAnswer::from(Refusal::Unsound),
             graph: dag,
         };
     }
     let x = insertion::insert_by(rule, dag_of(dag), part);
     HostGraph {
-        answer: of_inserted(x.answer),
+        answer: HostAnswer::from(x.answer),
         graph: HostDag::from(x.graph),
     }
 }

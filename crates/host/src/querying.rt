@@ -4,7 +4,7 @@ ghost use Rattle.graph.specs.declared.CircuitDag.{CircuitDag};
 ghost use Rattle.queries.specs.Queries.{execution_blocked, blocking_predecessors, successors, new_front_layer};
 ghost use Rattle.host.specs.Answers.{lent, on_dag};
 
-use crate::answers::{no_node, of_count, refuse};
+use crate::answers::no_node;
 use crate::crossing::{dag_of, is_dag};
 use crate::{HostAnswer, HostDag};
 use file::Refusal;
@@ -21,12 +21,12 @@ pub extern "C" fn sawhekonu_execution_blocked(
         ≡ on_dag dag buffer.old (λ (g : CircuitDag). lent (execution_blocked g executed.now node buffer.old)) }
 {
     if !is_dag(&dag) {
-        return refuse(Refusal::Unsound);
+        return HostAnswer::from(Refusal::Unsound);
     }
     let Ok(v) = u16::try_from(node) else {
         return no_node(dag_of(dag));
     };
-    of_count(queries::execution_blocked(dag_of(dag), executed, NodeIndex(v), buffer))
+    HostAnswer::from(queries::execution_blocked(dag_of(dag), executed, NodeIndex(v), buffer))
 }
 
 #[unsafe(no_mangle)]
@@ -40,12 +40,12 @@ pub extern "C" fn sawhekonu_blocking_predecessors(
         ≡ on_dag dag buffer.old (λ (g : CircuitDag). lent (blocking_predecessors g executed.now node buffer.old)) }
 {
     if !is_dag(&dag) {
-        return refuse(Refusal::Unsound);
+        return HostAnswer::from(Refusal::Unsound);
     }
     let Ok(v) = u16::try_from(node) else {
         return no_node(dag_of(dag));
     };
-    of_count(queries::blocking_predecessors(dag_of(dag), executed, NodeIndex(v), buffer))
+    HostAnswer::from(queries::blocking_predecessors(dag_of(dag), executed, NodeIndex(v), buffer))
 }
 
 #[unsafe(no_mangle)]
@@ -54,12 +54,12 @@ pub extern "C" fn sawhekonu_successors(dag: HostDag, node: usize, buffer: &mut [
         ≡ on_dag dag buffer.old (λ (g : CircuitDag). lent (successors g node buffer.old)) }
 {
     if !is_dag(&dag) {
-        return refuse(Refusal::Unsound);
+        return HostAnswer::from(Refusal::Unsound);
     }
     let Ok(v) = u16::try_from(node) else {
         return no_node(dag_of(dag));
     };
-    of_count(queries::successors(dag_of(dag), NodeIndex(v), buffer))
+    HostAnswer::from(queries::successors(dag_of(dag), NodeIndex(v), buffer))
 }
 
 #[unsafe(no_mangle)]
@@ -75,10 +75,10 @@ pub extern "C" fn sawhekonu_new_front_layer(
         lent (new_front_layer g executed.now layer.now node buffer.old)) }
 {
     if !is_dag(&dag) {
-        return refuse(Refusal::Unsound);
+        return HostAnswer::from(Refusal::Unsound);
     }
     let Ok(v) = u16::try_from(node) else {
         return no_node(dag_of(dag));
     };
-    of_count(queries::new_front_layer(dag_of(dag), executed, layer, NodeIndex(v), buffer))
+    HostAnswer::from(queries::new_front_layer(dag_of(dag), executed, layer, NodeIndex(v), buffer))
 }

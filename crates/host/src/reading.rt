@@ -4,12 +4,10 @@ ghost use Rattle.file.specs.Pairs.{locate_record};
 ghost use Rattle.host.specs.Answers.{of_place};
 
 use crate::HostPlace;
-use crate::answers::of_place;
 
 #[unsafe(no_mangle)]
 pub extern "C" fn sawhekonu_locate_record(file: &[u8], i: usize) -> HostPlace
     ensures { result ≡ of_place (locate_record file.now i) }
 {
-    let x = file::locate_record(file, i);
-    of_place(x)
+    HostPlace::from(file::locate_record(file, i))
 }

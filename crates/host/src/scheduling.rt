@@ -5,15 +5,13 @@ ghost use Rattle.schedule.specs.Schedule.{schedule_by, schedule, Condition, Sche
 ghost use Rattle.host.specs.Answers.{accepts, walked};
 
 use crate::HostAnswer;
-use crate::answers::of_count;
 
 #[unsafe(no_mangle)]
 pub extern "C" fn sawhekonu_schedule(file: &[u8], buffer: &mut [u16]) -> HostAnswer
     ensures buffer_after { record { answer = result; buffer = buffer.new } ≡ walked (schedule file.now buffer.old) }
     ensures promise { (k : ℕ) → result ≡ accepts k → Condition file.now → Scheduled file.now k buffer.new }
 {
-    let x = schedule::schedule(file, buffer);
-    of_count(x)
+    HostAnswer::from(schedule::schedule(file, buffer))
 }
 
 #[unsafe(no_mangle)]
@@ -21,6 +19,5 @@ pub extern "C" fn sawhekonu_schedule_both_ends(file: &[u8], buffer: &mut [u16]) 
     ensures buffer_after { record { answer = result; buffer = buffer.new } ≡ walked (schedule_by FarAll file.now buffer.old) }
     ensures promise { (k : ℕ) → result ≡ accepts k → ScheduledBy FarAll file.now k buffer.new }
 {
-    let x = schedule::schedule_both_ends(file, buffer);
-    of_count(x)
+    HostAnswer::from(schedule::schedule_both_ends(file, buffer))
 }

@@ -4,7 +4,7 @@ ghost use Rattle.graph.specs.declared.CircuitDag.{CircuitDag};
 ghost use Rattle.walk.specs.Blocks.{whole_walk};
 ghost use Rattle.host.specs.Answers.{on_dag, stepped_from, walked};
 
-use crate::answers::{no_node, of_count, of_step, refuse};
+use crate::answers::no_node;
 use crate::crossing::{dag_of, is_dag, is_walk, walk_of};
 use crate::{HostAnswer, HostDag, HostStep, HostWalk};
 use file::Refusal;
@@ -16,7 +16,7 @@ pub extern "C" fn sawhekonu_next(dag: HostDag, state: HostWalk, buffer: &mut [u1
 {
     if !is_dag(&dag) {
         return HostStep {
-            answer: refuse(Refusal::Unsound),
+            answer: HostAnswer::from(Refusal::Unsound),
             walk: state,
         };
     }
@@ -27,7 +27,7 @@ pub extern "C" fn sawhekonu_next(dag: HostDag, state: HostWalk, buffer: &mut [u1
         };
     }
     let mut walk = walk_of(state);
-    let answer = of_step(walk.next(dag_of(dag), buffer));
+    let answer = HostAnswer::from(walk.next(dag_of(dag), buffer));
     HostStep {
         answer,
         walk: HostWalk::from(walk),
@@ -40,7 +40,7 @@ pub extern "C" fn sawhekonu_whole_walk(dag: HostDag, buffer: &mut [u16]) -> Host
         ≡ on_dag dag buffer.old (λ (g : CircuitDag). walked (whole_walk g buffer.old)) }
 {
     if !is_dag(&dag) {
-        return refuse(Refusal::Unsound);
+        return HostAnswer::from(Refusal::Unsound);
     }
-    of_count(walk::whole_walk(dag_of(dag), buffer))
+    HostAnswer::from(walk::whole_walk(dag_of(dag), buffer))
 }
