@@ -1,4 +1,5 @@
-// What a graph holds.
+// What a graph holds. `first` picks one of two accessors, as the definitions' own argument does: a closure over the accessor would need its
+// contract as a clause.
 ghost use Rattle.std.specs.Prelude.{◌≡◌, true, false};
 ghost use Rattle.graph.specs.declared.CircuitDag.{CircuitDag};
 ghost use Rattle.accessors.specs.Accessors.{commuting_operations, first_parallel_block, last_parallel_block, get};
@@ -68,7 +69,25 @@ pub extern "C" fn sawhekonu_last_parallel_block(dag: HostDag, buffer: &mut [u16]
     HostAnswer::from(accessors::last_parallel_block(dag_of(dag), buffer))
 }
 
-// The first operation that involves a qubit; a qubit over 63 has none.
+// The first or last operation that involves a qubit; a qubit over 63 has none.
+fn operation_of_qubit(first: bool, dag: &HostDag, qubit: usize) -> HostAnswer
+    ensures { result ≡ asked dag.now (involving_qubit first qubit) }
+{
+    if !is_dag(dag) {
+        return HostAnswer::from(Refusal::Unsound);
+    }
+    let g = dag_of(*dag);
+    if 64 <= qubit {
+        return no_operation(g);
+    }
+    let q = Qubit(qubit as u8);
+    if first {
+        HostAnswer::from(accessors::first_operation_involving_qubit(g, q))
+    } else {
+        HostAnswer::from(accessors::last_operation_involving_qubit(g, q))
+    }
+}
+
 #[unsafe(no_mangle)]
 pub extern "C" fn sawhekonu_first_operation_involving_qubit(
     dag: HostDag,
@@ -76,29 +95,14 @@ pub extern "C" fn sawhekonu_first_operation_involving_qubit(
 ) -> HostAnswer
     ensures { result ≡ asked dag (involving_qubit true qubit) }
 {
-    if !is_dag(&dag) {
-        return HostAnswer::from(Refusal::Unsound);
-    }
-    let g = dag_of(dag);
-    if 64 <= qubit {
-        return no_operation(g);
-    }
-    HostAnswer::from(accessors::first_operation_involving_qubit(g, Qubit(qubit as u8)))
+    operation_of_qubit(true, &dag, qubit)
 }
 
-// The last operation that involves a qubit; a qubit over 63 has none.
 #[unsafe(no_mangle)]
 pub extern "C" fn sawhekonu_last_operation_involving_qubit(dag: HostDag, qubit: usize) -> HostAnswer
     ensures { result ≡ asked dag (involving_qubit false qubit) }
 {
-    if !is_dag(&dag) {
-        return HostAnswer::from(Refusal::Unsound);
-    }
-    let g = dag_of(dag);
-    if 64 <= qubit {
-        return no_operation(g);
-    }
-    HostAnswer::from(accessors::last_operation_involving_qubit(g, Qubit(qubit as u8)))
+    operation_of_qubit(false, &dag, qubit)
 }
 
 // A key that a map may have.
@@ -110,7 +114,24 @@ fn key_of(name: usize, index: usize) -> Option<RegisterKey>
     Some(RegisterKey { name, index })
 }
 
-// The first operation that involves an entry of a register; a name over 255 or an index over 65535 has none.
+// The first or last operation that involves an entry of a register; a name over 255 or an index over 65535 has none.
+fn operation_of_key(first: bool, dag: &HostDag, name: usize, index: usize) -> HostAnswer
+    ensures { result ≡ asked dag.now (involving_key first name index) }
+{
+    if !is_dag(dag) {
+        return HostAnswer::from(Refusal::Unsound);
+    }
+    let g = dag_of(*dag);
+    let Some(key) = key_of(name, index) else {
+        return no_operation(g);
+    };
+    if first {
+        HostAnswer::from(accessors::first_operation_involving_classical(g, key))
+    } else {
+        HostAnswer::from(accessors::last_operation_involving_classical(g, key))
+    }
+}
+
 #[unsafe(no_mangle)]
 pub extern "C" fn sawhekonu_first_operation_involving_classical(
     dag: HostDag,
@@ -119,17 +140,9 @@ pub extern "C" fn sawhekonu_first_operation_involving_classical(
 ) -> HostAnswer
     ensures { result ≡ asked dag (involving_key true name index) }
 {
-    if !is_dag(&dag) {
-        return HostAnswer::from(Refusal::Unsound);
-    }
-    let g = dag_of(dag);
-    let Some(key) = key_of(name, index) else {
-        return no_operation(g);
-    };
-    HostAnswer::from(accessors::first_operation_involving_classical(g, key))
+    operation_of_key(true, &dag, name, index)
 }
 
-// The last operation that involves an entry of a register; a name over 255 or an index over 65535 has none.
 #[unsafe(no_mangle)]
 pub extern "C" fn sawhekonu_last_operation_involving_classical(
     dag: HostDag,
@@ -138,12 +151,5 @@ pub extern "C" fn sawhekonu_last_operation_involving_classical(
 ) -> HostAnswer
     ensures { result ≡ asked dag (involving_key false name index) }
 {
-    if !is_dag(&dag) {
-        return HostAnswer::from(Refusal::Unsound);
-    }
-    let g = dag_of(dag);
-    let Some(key) = key_of(name, index) else {
-        return no_operation(g);
-    };
-    HostAnswer::from(accessors::last_operation_involving_classical(g, key))
+    operation_of_key(false, &dag, name, index)
 }
