@@ -7,7 +7,7 @@ use native.Mathlib.Omega.{arith}
 use native.Mathlib.Numerals.{add-one}
 use native.Mathlib.Decide.{ℕ_discrete}
 use lib.Dec.{ltb, leb}
-use lib.ListN.{length, take, drop, get_or, length-take, length-drop, get_or-eq_default}
+use lib.ListN.{length, take, drop, length-take, length-drop, get_or-eq_default}
 use borrow.Author.Tests.{leb-true, le-leb, lt-leb, ltb-true, ltb-false, lt-ltb, le-ltb}
 use Rattle.file.specs.Pairs.{number_at, offset_of, length_of, count_of, check_pairs, header, after_header, check_file, place_from, locate_record, pair_place, record_at}
 use Rattle.file.specs.Tight.{OwnParts}
@@ -191,10 +191,6 @@ field_past s a l = rw (get_or-eq_default s 0 l, get_or-eq_default s 0 (le_step l
   where
     le_step : length s ≤ a → length s ≤ a + 1
     le_step h = omega arith
-
-pub field_last : (s : List ℕ) (a : ℕ) → length s - a ≡ 1 → number_at s a 2 ≡ get_or s a 0
-unfolding number_at
-field_last s a l = let h : length s ≤ a + 1 = omega arith in rw (get_or-eq_default s 0 h) (omega arith)
 
 -- ---- The header, and what comes behind it
 

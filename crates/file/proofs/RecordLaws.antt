@@ -7,7 +7,7 @@ use Prim.Native.Nat.{ℕ, suc, ◌+◌, ◌*◌, ◌-◌, ◌<◌, ◌≤◌}
 use native.Mathlib.Omega.{arith}
 use lib.Dec.{leb, eqb}
 use lib.ListN.{length, get_or, get_or-eq_default}
-use borrow.Author.Tests.{eqb-true, eqb-false, ne_eqb, le-leb, lt-leb, leb-true, not-true}
+use borrow.Author.Tests.{eqb-true, eqb-false, le-leb, lt-leb, leb-true, not-true}
 use Rattle.file.proofs.BoolLaws.{bool_cases, clash_bool, both_true}
 use Rattle.file.specs.Pairs.{count_of, check_file, offset_of, length_of, part_of, pair_place, record_at}
 use Rattle.file.specs.Refusals.{number_of, at_record}
@@ -249,10 +249,6 @@ module _ (s : List ℕ) (c k : ℕ) where
 -- ---- The answers of `is_set`, `register_key` and `parse_record`
 
 module _ (s : List ℕ) where
-  pub set_short : length s < 15 → false ≡ Records.set_rule s
-  unfolding Records.set_rule
-  set_short l = rw (ne_eqb (length s) (15 + 3 * Records.count s) (omega arith)) refl
-
   -- an entry that begins past the end
   pub no_entry : (k : ℕ) → length s ≤ 15 + 3 * k → record { name = 0; index = 0 } ≡ Records.key_at s k
   no_entry k l = let h : length s ≤ 16 + 3 * k = omega arith in rw (get_or-eq_default s 0 l, field_past s (16 + 3 * k) h) refl

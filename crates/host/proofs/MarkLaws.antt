@@ -6,7 +6,6 @@ use mathlib.Core.List.{List, [], ◌∷◌, map, map-append}
 use Prim.Native.Nat.{ℕ, zero, suc, ◌+◌, ◌≤◌, ◌<◌}
 use native.Mathlib.Omega.{arith}
 use native.Mathlib.Decide.{dec_lt}
-use mir.Val.{bool_byte}
 use lib.Dec.{eqb, leb, ltb}
 use lib.ListN.{length, get_or, take, set, length-set}
 use lib.Seq.{take-suc, take-suc-set, take_all}
@@ -49,14 +48,7 @@ tested_more {bytes} {above} {v} i h = record {
       rw (z, take-suc bytes v 0 k, all_append (λ (b : ℕ). leb b 1) (take v bytes) (get_or bytes v 0 ∷ []), i.before, only_one, not_above) (one_more above _);
 }
 
-pub tested_done : {bytes : List ℕ} {above : Bool} {v : ℕ} → Tested bytes above v → 512 ≤ v → not above ≡ are_marks bytes
-tested_done {bytes} {above} {v} i h = sym i.before ∙ ap are_marks (take_all v bytes (omega (arith, i.long)))
-
 -- ---- the loops that make marks of bytes, and bytes of marks
-
-pub mark_byte : (b : Bool) → bool_byte b ≡ cond b 1 0
-mark_byte true = refl
-mark_byte false = refl
 
 module _ {A B : Type 0} where
   pub record Mapped (f : A → B) (l : List A) (r : List B) (v : ℕ) : Type 0 where

@@ -1,4 +1,4 @@
-use Rattle.std.proofs.Common.{◌<◌, sym, ◌∙◌, arith, rules}
+use Rattle.std.proofs.Common.{◌<◌, sym, ◌∙◌, rules}
 use Rattle.std.proofs.lemmas.Result.{err_from_is_err_and}
 use Rattle.queries.proofs.QueryLaws.{sound_ok}
 use Rattle.host.proofs.NodeLaws.{got_beyond, got_unsound}
