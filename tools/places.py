@@ -202,7 +202,7 @@ def lengths(found):
     for f in found:
         if any(re.search(r"&(mut )?\[", p) for p in f.params):
             for p in f.params:
-                if re.fullmatch(r"(n|m|k|c|at|start|count|size|length|len):\s*usize", p):
+                if re.fullmatch(r"(n|m|start|count|size|length|len):\s*usize", p):
                     yield f"{f.place()} ({p})"
 
 

@@ -109,7 +109,8 @@ pub fn locate_record(file: &[u8], i: usize) -> Result<Place, Refusal>
     locate_pair(file, i)
 }
 
-// The part of the file at a place, empty where there is none.
+// The part of the file at a place, empty where there is none. record_at and part_of are its two public names, one for
+// each way to find the place.
 fn part_at(file: &[u8], found: Result<Place, Refusal>) -> &[u8]
     requires { IfOk found (λ place. place.offset + place.length ≤ length file.now) }
     ensures { Part file.entry result found }

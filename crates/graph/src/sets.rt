@@ -1,4 +1,5 @@
-// Sets of nodes, kept as marks: v is in the set where mark v stands.
+// Sets of nodes, kept as marks: v is in the set where mark v stands. Of 512 marks always, as they stand in the graph, so
+// that none has a length.
 ghost use Rattle.std.specs.Prelude.{◌≡◌, Bool, false, ℕ, ltb, replicate};
 ghost use Rattle.file.specs.Lists.{any_of, all_of, members};
 

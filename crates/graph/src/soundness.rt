@@ -22,7 +22,8 @@ fn counts_fit(g: &CircuitDag) -> bool
         && g.nodes.count - g.backs == g.fronts
 }
 
-// The place's number among those within the ends: back places from 0 up, then front places from -1 down.
+// The place's number among those within the ends: back places from 0 up, then front places from -1 down. The casts are of
+// numbers that fit by the sign: try_from would add a case that never comes.
 fn slot_of(place: i16, backs: usize, fronts: usize) -> Option<usize>
     requires { backs + fronts ≤ 512 }
     ensures { result ≡ slot_answer backs fronts place }
@@ -200,7 +201,8 @@ fn older_cell(from: u16, to: u16) -> usize
     }
 }
 
-// No two edges are the same, in any order, by a bit for each pair of nodes.
+// No two edges are the same, in any order, by a bit for each pair of nodes. A remainder is below 64, which a cast says as
+// well as try_from, without a case that never comes.
 fn edges_differ(es: &Edges) -> bool
     requires { (es.now.count ≤ 2048) × ((i : ℕ) → i < es.now.count → low_edge es.now i) }
     ensures { result ≡ edges_differ es.now }

@@ -69,7 +69,8 @@ pub extern "C" fn sawhekonu_last_parallel_block(dag: HostDag, buffer: &mut [u16]
     HostAnswer::from(accessors::last_parallel_block(dag_of(dag), buffer))
 }
 
-// The first or last operation that involves a qubit; a qubit over 63 has none.
+// The first or last operation that involves a qubit; a qubit over 63 has none. Behind that test the cast keeps the
+// number: try_from would be a second test.
 fn operation_of_qubit(first: bool, dag: &HostDag, qubit: usize) -> HostAnswer
     ensures { result ≡ asked dag.now (involving_qubit first qubit) }
 {
