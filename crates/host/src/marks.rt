@@ -1,4 +1,6 @@
-// A set of nodes crosses as bytes, 0 or 1 each. No loop has a branch on a byte, so that the compiler takes many at a time.
+// A set of nodes crosses as bytes, 0 or 1 each. No loop has a branch on a byte, so that the compiler takes many at a time:
+// `all` would stop at a byte. The copies are loops and no array::map, which moves its elements into an iterator first, so
+// that the proof did not close.
 ghost use Rattle.std.specs.Prelude.{◌≡◌};
 ghost use Rattle.host.specs.Marks.{are_marks, marks_of, bytes_of};
 
