@@ -3,6 +3,7 @@ pub mod BufferLaws
 pub mod ReachLaws
 pub mod QueryLaws
 pub mod PlaceOrder
+pub mod SortLaws
 pub mod ConversionLaws
 pub mod CircuitLaws
 pub mod CircuitTheorems

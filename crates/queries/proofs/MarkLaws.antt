@@ -9,11 +9,10 @@ use native.Mathlib.Numerals.{add-one}
 use native.Mathlib.Decide.{dec_lt, ℕ_discrete}
 use lib.Dec.{ltb, leb, eqb}
 use lib.ListN.{length, get_or, take, set, replicate, length-set}
-use Rattle.std.specs.List.{AllWithin}
-use Rattle.std.specs.List.Sorted.{IsPartitionedBy}
-use Rattle.graph.proofs.ListLaws.{any_default}
+use Rattle.std.specs.List.Sorted.{IsNonDecreasing}
+use Rattle.std.proofs.lemmas.List.Sorted.{IsNonDecreasingBy-from_default}
 use lib.Seq.{length-take-le, get_or-take, take-suc, take-length, get_or-set_same, get_or-set_other}
-use borrow.Author.Tests.{ltb-true, leb-true, leb-false, le-leb, eqb-true, eq-eqb, ne_eqb, not-true as not-flip}
+use borrow.Author.Tests.{ltb-true, leb-true, le-leb, eqb-true, eq-eqb, ne_eqb, not-true as not-flip}
 use Rattle.file.specs.Lists.{any_of, member}
 use Rattle.graph.proofs.CheckLaws.{unmarked as replicate-false}
 use Rattle.queries.specs.Marks.{no_node, every_node, unmarked, Listed, EndsBelow, Ordered, LeadsAbove, Neighbours, Passes, Spread, Carried, in_turn, Swept, Closed}
@@ -352,21 +351,6 @@ module _ {near far : List ℕ} {m : ℕ} {ordered : Bool} {last i : ℕ} (O : Or
   pub orders_all : m ≤ i → ordered ≡ true → Ordered near far m
   orders_all k q = let z : i ≡ m = omega (arith, O.low) in rw z at (O.told q)
 
--- edges from high on lead above v; those between low and high are still to be asked
-pub record Halving (far : List ℕ) (m v low high : ℕ) : Type 0 where
-  pub count : m ≤ 2048
-  pub sorted : (i j : ℕ) → i ≤ j → j < m → get_or far i 0 ≤ get_or far j 0
-  pub between : low ≤ high
-  pub leads : LeadsAbove far m v high
-
-pub halves_down : (far : List ℕ) (m v low high mid : ℕ) → Halving far m v low high → low ≤ mid → mid < high → v < get_or far mid 0 → Halving far m v low mid
-halves_down far m v low high mid H a b c = record {
-  count = H.count;
-  sorted = H.sorted;
-  between = a;
-  leads = record { within = omega (arith, H.leads.within); above = λ i x y. omega (arith, H.sorted mid i x y) };
-}
-
 -- the first edges of an ordered list
 pub orders_fewer : (near far : List ℕ) (m k : ℕ) → k ≤ m → Ordered near far m → Ordered near far k
 orders_fewer near far m k h O = record { rises = λ i l. O.rises i (omega arith); ascends = λ i j a l. O.ascends i j a (omega arith) }
@@ -430,19 +414,23 @@ settled_above near far m k v mark h O A C = record {
         (λ i l t. le-leb (get_or near i 0) v (omega (arith, O.rises i (omega (arith, A.within)), leb-true (get_or far i 0) v t)))
         (λ u t. le-leb u v (omega (arith, eqb-true u v (sym (only_marked v u h) ∙ t))))
 
--- the arcs of an ordered list that lead at most to v come first
-pub parted : (far : List ℕ) (m v : ℕ) → ((i j : ℕ) → i ≤ j → j < m → get_or far i 0 ≤ get_or far j 0) → m ≤ length far → IsPartitionedBy (λ (x : ℕ). leb x v) (take m far)
-parted far m v ascends long i j d h k t =
-    let n : length (take m far) ≡ m = length-take-le m far long in
-    let at : (n : ℕ) → n < m → get_or (take m far) n d ≡ get_or far n 0 = λ n l. get_or-take m far n d l ∙ any_default far n d 0 (omega arith) in
-    let below : get_or far i 0 ≤ get_or far j 0 = ascends i j h (omega arith) in
-    rw (at i (omega arith)) (le-leb _ _ (omega (arith, below, leb-true _ _ (rw (at j (omega arith)) at t))))
+-- an ordered list has its arcs: no far end is 0
+some_long : (l : List ℕ) (i : ℕ) → 0 < get_or l i 0 → i < length l
+some_long [] i h = absurd (omega arith)
+some_long (x ∷ l) zero h = omega arith
+some_long (x ∷ l) (suc i) h = omega (arith, some_long l i h)
 
-pub leads_by : (far : List ℕ) (m v r : ℕ) → m ≤ length far → r ≤ length (take m far)
-    → AllWithin (λ (x : ℕ). leb x v ≡ false) (take m far) r (length (take m far)) → LeadsAbove far m v r
-leads_by far m v r long low above =
+pub ordered_long : (near far : List ℕ) (m : ℕ) → Ordered near far m → m ≤ length far
+ordered_long near far zero O = omega arith
+ordered_long near far (suc m) O = omega (arith, some_long far m (omega (arith, O.rises m (omega arith))))
+
+-- the first arcs of an ordered list, as a list
+pub non_decreasing : (far : List ℕ) (m : ℕ) → ((i j : ℕ) → i ≤ j → j < m → get_or far i 0 ≤ get_or far j 0) → m ≤ length far → IsNonDecreasing (take m far)
+non_decreasing far m ascends long =
     let n : length (take m far) ≡ m = length-take-le m far long in
-    record {
-      within = omega arith;
-      above = λ i a b. leb-false _ _ (rw (get_or-take m far i 0 b) at (above i 0 a (omega arith)));
-    }
+    IsNonDecreasingBy-from_default (λ x. x) (take m far) 0 (λ i j h k. rw (get_or-take m far i 0 (omega arith), get_or-take m far j 0 (omega arith)) (ascends i j h (omega arith)))
+
+pub leads_whole : (far : List ℕ) (m v k : ℕ) → m ≤ length far → LeadsAbove (take m far) (length (take m far)) v k → LeadsAbove far m v k
+leads_whole far m v k long A =
+    let n : length (take m far) ≡ m = length-take-le m far long in
+    record { within = omega (arith, A.within); above = λ i a b. rw (get_or-take m far i 0 b) at (A.above i a (omega arith)) }

@@ -5,7 +5,7 @@ use mathlib.Core.List.{List, [], ◌∷◌, ◌++◌}
 use Prim.Native.Nat.{ℕ, ◌≤◌, ◌<◌}
 use native.Mathlib.Omega.{arith}
 use lib.ListN.{length, set}
-use borrow.Author.Tests.{lt-ltb, le-ltb, ltb-true}
+use borrow.Author.Tests.{lt-ltb, le-ltb}
 use Rattle.file.specs.Lists.{keep, member, is_empty}
 use Rattle.file.specs.declared.Refusal.TheVariants.{Absent, NotInLayer, Unsound}
 use Rattle.graph.specs.declared.CircuitDag.{CircuitDag}
@@ -15,7 +15,7 @@ use Rattle.queries.specs.Reach.{blocking, BlockingList, predecessors_of, success
 use Rattle.queries.specs.Queries.{Lent, refuses, answers, on_node, check_node, execution_blocked, blocking_predecessors, successors, remove, freed, layer_after}
 use Rattle.queries.specs.Queries.{new_front_layer}
 use Rattle.queries.specs.Marks.{no_node, every_node, kept, without, layer_by, Listed, Neighbours, Closed, Waiting, FirstAt}
-use Rattle.graph.proofs.SoundnessLaws.{Sound, sound_told}
+use Rattle.graph.proofs.SoundnessLaws.{Sound}
 use Rattle.file.specs.declared.Refusal.{Refusal}
 use Rattle.std.specs.Prelude.{ltb, Result, Ok, Err, ⊤}
 use Rattle.queries.proofs.BufferLaws.{remove_first, first_member, first_absent, length_some}
@@ -93,22 +93,6 @@ not_sound g c e = go (sound g) refl e
     go true s e = let z : ◌≡◌ {A = ℕ} 0 1 = cc in absurd (omega arith)
     go false s e = (s, cc)
 
--- what a node that may be asked about has
-pub record Asked (g : CircuitDag) (v : ℕ) : Type 0 where
-  pub told : sound g ≡ true
-  pub low : v < size g
-  pub is_sound : Sound g
-
-pub asked : (g : CircuitDag) (v : ℕ) (u : ⊤) → length g.commuting.list ≡ 512 → check_node g v ≡ Ok u → Asked g v
-asked g v u k e = go (sound g) (ltb v (size g)) refl refl e
-  where
-    go : (a b : Bool) → sound g ≡ a → ltb v (size g) ≡ b
-        → ◌≡◌ {A = Result ⊤ Refusal} (cond a (cond b (Ok tt) (Err Absent)) (Err Unsound)) (Ok u) → Asked g v
-    go true true s l e = record { told = s; low = ltb-true _ _ l; is_sound = sound_told g k s }
-    go true false s l e = let z : ◌≡◌ {A = ℕ} 0 1 = cc in absurd (omega arith)
-    go false b s l e = let z : ◌≡◌ {A = ℕ} 0 1 = cc in absurd (omega arith)
-
--- .. and what one that may not is answered
 pub not-asked : (g : CircuitDag) (v : ℕ) (c : Refusal) (b : List ℕ) (x : Lent) → check_node g v ≡ Err c → refuses c b ≡ on_node g v b x
 not-asked g v c b x e = go (sound g) (ltb v (size g)) e
   where

@@ -1,7 +1,10 @@
 // The edges of a graph as arcs, to be gone over in either direction.
 ghost use Rattle.queries.specs.Marks.{EndsBelow};
 
-// Arc i leads from node far[i] to node near[i], both below 512: along the edges, or against them.
+use graph::CircuitDag;
+
+// Arc i leads from node far[i] to node near[i], both below 512: along the edges, or against them. It lends the graph's
+// arrays, of which the first count entries stand: a slice would be measured again at each access.
 #[derive(Clone, Copy)]
 pub struct Arcs<'a> {
     pub near: &'a [u16; 2048],
@@ -10,8 +13,36 @@ pub struct Arcs<'a> {
     ghost below: { EndsBelow near.now far.now count },
 }
 
-impl Arcs<'_> {
+impl<'a> Arcs<'a> {
     ghost use Rattle.std.specs.Prelude.{◌≡◌, ◌<◌, get_or};
+
+    // The arcs that lead as a graph's edges do.
+    pub(crate) fn along(g: &'a CircuitDag) -> Arcs<'a>
+        requires { EndsBelow g.now.edges.to g.now.edges.from g.now.edges.count }
+        ensures near { result.near.now ≡ g.now.edges.to }
+        ensures far { result.far.now ≡ g.now.edges.from }
+        ensures count { result.count ≡ g.now.edges.count }
+    {
+        Arcs {
+            near: &g.edges.to,
+            far: &g.edges.from,
+            count: g.edges.count,
+        }
+    }
+
+    // The arcs that lead against them.
+    pub(crate) fn against(g: &'a CircuitDag) -> Arcs<'a>
+        requires { EndsBelow g.now.edges.from g.now.edges.to g.now.edges.count }
+        ensures near { result.near.now ≡ g.now.edges.from }
+        ensures far { result.far.now ≡ g.now.edges.to }
+        ensures count { result.count ≡ g.now.edges.count }
+    {
+        Arcs {
+            near: &g.edges.from,
+            far: &g.edges.to,
+            count: g.edges.count,
+        }
+    }
 
     // The node that arc i leads to.
     pub(crate) fn near_end(&self, i: usize) -> usize

@@ -3,10 +3,12 @@
 
 mod arcs;
 mod conversion;
+mod kept;
+mod node;
 mod queries;
 
 pub use arcs::Arcs;
-pub use conversion::{definitions_first, to_circuit};
+pub use conversion::{definitions_first, in_file_order, to_circuit};
 use file::Refusal;
 pub use queries::{
     answer_list, answer_marked, blocking_predecessors, execution_blocked, new_front_layer,

@@ -1,35 +1,16 @@
 // Queries on a handed-in graph, each answered into a lent buffer. Sets of nodes are marks; edges are read in passes.
-ghost use Rattle.std.specs.Prelude.{◌≡◌, true, false, not, ◌&&◌, ◌∷◌, ◌++◌, ℕ, ◌+◌, ◌≤◌, ◌<◌, ltb, leb, length, get_or, set, IfSome, IfNone, OnOk};
-ghost use Rattle.file.specs.Lists.{members, put_at};
-ghost use Rattle.queries.specs.Marks.{no_node, every_node, kept, without, layer_by, Listed, EndsBelow, Ordered, LeadsAbove, Neighbours};
+ghost use Rattle.std.specs.Prelude.{◌≡◌, true, false, not, ◌&&◌, ◌≤◌, ◌<◌, ltb, leb, length, set, IfSome, IfNone};
+ghost use Rattle.std.specs.List.Sorted.{IsNonDecreasing};
+ghost use Rattle.file.specs.Lists.{members};
+ghost use Rattle.queries.specs.Marks.{no_node, every_node, Listed, Ordered, LeadsAbove, Neighbours};
 ghost use Rattle.queries.specs.Marks.{Carried, in_turn, Swept, Closed, Waiting, FirstAt};
-ghost use Rattle.queries.specs.Queries.{answers, check_node, execution_blocked, blocking_predecessors, successors as successors_rule, new_front_layer};
+ghost use Rattle.queries.specs.Queries.{answers, execution_blocked, blocking_predecessors, successors as successors_rule, new_front_layer};
 
 use crate::Arcs;
+use crate::kept::Kept;
+use crate::node::{Node, check_node};
 use file::Refusal;
-use graph::{CircuitDag, NodeIndex, check_sound, no_marks};
-
-// The node v alone.
-#[tactic(auto, unfolding(crate::specs::Marks::no_node))]
-fn only(v: NodeIndex) -> [bool; 512]
-    requires { v.0 < 512 }
-    ensures { result ≡ set no_node v.0 true }
-{
-    let mut r = [false; 512];
-    r[usize::from(v.0)] = true;
-    r
-}
-
-// Every node but v.
-#[tactic(auto, unfolding(crate::specs::Marks::every_node))]
-fn all_but(v: NodeIndex) -> [bool; 512]
-    requires { v.0 < 512 }
-    ensures { result ≡ set every_node v.0 false }
-{
-    let mut r = [true; 512];
-    r[usize::from(v.0)] = false;
-    r
-}
+use graph::{CircuitDag, NodeIndex, no_marks};
 
 // The nodes that stand in a list; its numbers from 512 on are no nodes.
 fn listed(list: &[u16]) -> [bool; 512]
@@ -44,17 +25,8 @@ fn listed(list: &[u16]) -> [bool; 512]
     r
 }
 
-// The same with the node v besides.
-fn listed_with(list: &[u16], v: NodeIndex) -> [bool; 512]
-    requires { v.0 < 512 }
-    ensures { Listed (v.0 ∷ list.now) result }
-{
-    let mut r = listed(list);
-    r[usize::from(v.0)] = true;
-    r
-}
-
-// The near ends of the arcs whose far end is not skipped.
+// The near ends of the arcs whose far end is not skipped. Like the passes below it goes over indices: both ends lie in
+// arrays of which the first count entries stand, and cutting them first would measure each twice.
 fn neighbours(skip: &[bool; 512], arcs: &Arcs) -> [bool; 512]
     ensures { Neighbours skip.now arcs.now.near.now arcs.now.far.now arcs.now.count result }
 {
@@ -66,11 +38,11 @@ fn neighbours(skip: &[bool; 512], arcs: &Arcs) -> [bool; 512]
 }
 
 // The near ends of the arcs whose far end is v.
-fn neighbours_of(v: NodeIndex, arcs: &Arcs) -> [bool; 512]
-    requires { v.0 < 512 }
-    ensures { Neighbours (set every_node v.0 false) arcs.now.near.now arcs.now.far.now arcs.now.count result }
+#[tactic(auto, unfolding(crate::specs::Marks::every_node))]
+fn neighbours_of(v: Node, arcs: &Arcs) -> [bool; 512]
+    ensures { Neighbours (set every_node v.v.0 false) arcs.now.near.now arcs.now.far.now arcs.now.count result }
 {
-    neighbours(&all_but(v), arcs)
+    neighbours(&v.marked([true; 512], false), arcs)
 }
 
 // A marked far end marks the near end, with no branch. Did the mark come new?
@@ -85,7 +57,8 @@ fn carry(mark: &mut [bool; 512], arcs: &Arcs, i: usize) -> bool
     new & !old
 }
 
-// The arc that comes i-th in a pass up or down the m arcs.
+// The arc that comes i-th in a pass up or down the m arcs. An enum of the two directions would say no more than the flag,
+// and the next pass's direction is its negation.
 fn in_turn(i: usize, m: usize, up: bool) -> usize
     requires { i < m }
     ensures { result ≡ in_turn i m up }
@@ -137,12 +110,12 @@ fn is_ordered(arcs: &Arcs) -> bool
     ordered
 }
 
-// An index from which on the arcs lead above v; their far ends ascend.
-fn leads_above(far: &[u16; 2048], m: usize, v: NodeIndex) -> usize
-    requires { (m ≤ 2048) × ((i j : ℕ) → i ≤ j → j < m → get_or far.now i 0 ≤ get_or far.now j 0) }
-    ensures { LeadsAbove far.now m v.0 result }
+// An index from which on a list that ascends is above v: there the arcs lead above it.
+fn leads_above(far: &[u16], v: NodeIndex) -> usize
+    requires { IsNonDecreasing far.now }
+    ensures { LeadsAbove far.now (length far.now) v.0 result }
 {
-    far[..m].partition_point(|u| *u <= v.0)
+    far.partition_point(|u| *u <= v.0)
 }
 
 // One pass down the first k arcs of an ordered list carries every mark as far as it goes.
@@ -155,66 +128,16 @@ fn settle(mark: &mut [bool; 512], arcs: &Arcs, k: usize)
     }
 }
 
-// A node that is marked and not skipped.
-fn is_kept(marked: bool, skipped: bool) -> bool
-    ensures { result ≡ (marked && not skipped) }
-{
-    marked & !skipped
-}
-
-// How many of the nodes below n are marked and not skipped.
-fn count_kept(mark: &[bool; 512], skip: &[bool; 512], n: usize) -> usize
-    requires { n ≤ 512 }
-    ensures { result ≡ length (kept mark.now skip.now n) }
-{
-    let mut k: usize = 0;
-    for u in 0..n {
-        if is_kept(mark[u], skip[u]) {
-            k += 1;
-        }
-    }
-    k
-}
-
-// Those nodes, ascending, over the buffer's entries from start on.
-fn write_kept(mark: &[bool; 512], skip: &[bool; 512], n: usize, buffer: &mut [u16], start: usize)
-    requires { (n ≤ 512) × (start + length (kept mark.now skip.now n) ≤ length buffer.old) }
-    ensures { buffer.new ≡ put_at start (kept mark.now skip.now n) buffer.old }
-{
-    let mut k: usize = start;
-    for u in 0..n {
-        if is_kept(mark[u], skip[u]) {
-            buffer[k] = u as u16;
-            k += 1;
-        }
-    }
-}
-
-// The answer of a query whose entries are those nodes.
-fn answer_kept(
-    mark: &[bool; 512],
-    skip: &[bool; 512],
-    n: usize,
-    buffer: &mut [u16],
-) -> Result<usize, Refusal>
-    requires { n ≤ 512 }
-    ensures { record { answer = result; buffer = buffer.new }
-        ≡ answers (kept mark.now skip.now n) buffer.old }
-{
-    let k = count_kept(mark, skip, n);
-    if buffer.len() < k {
-        return Err(Refusal::ShortBuffer);
-    }
-    write_kept(mark, skip, n, buffer, 0);
-    Ok(k)
-}
-
 // The answer of a query whose entries are the marked nodes, ascending.
 pub fn answer_marked(mark: [bool; 512], buffer: &mut [u16]) -> Result<usize, Refusal>
     ensures { record { answer = result; buffer = buffer.new } ≡ answers (members mark) buffer.old }
 {
-    let none = no_marks();
-    answer_kept(&mark, &none, 512, buffer)
+    let kept = Kept {
+        mark: &mark,
+        skip: &no_marks(),
+        n: 512,
+    };
+    kept.answer(buffer)
 }
 
 // The first index of v in the list.
@@ -227,13 +150,14 @@ fn index_in(list: &[u16], v: NodeIndex) -> Option<usize>
 
 // The node v and those from which it is reached: marks from v against the edges. In an ordered list no edge that leads
 // above v counts.
-fn ancestors(arcs: &Arcs, v: NodeIndex) -> [bool; 512]
-    requires { v.0 < 512 }
-    ensures { Closed arcs.now.near.now arcs.now.far.now arcs.now.count (set no_node v.0 true) result }
+#[tactic(auto, unfolding(crate::specs::Marks::no_node))]
+fn ancestors(arcs: &Arcs, v: Node) -> [bool; 512]
+    ensures { Closed arcs.now.near.now arcs.now.far.now arcs.now.count (set no_node v.v.0 true) result }
 {
-    let mut mark = only(v);
+    let mut mark = v.marked([false; 512], true);
     if is_ordered(arcs) {
-        settle(&mut mark, arcs, leads_above(arcs.far, arcs.count, v));
+        let far = arcs.far;
+        settle(&mut mark, arcs, leads_above(&far[..arcs.count], v.v));
         return mark;
     }
     spread(&mut mark, arcs, false);
@@ -260,64 +184,6 @@ pub fn answer_list(list: &[u16], buffer: &mut [u16]) -> Result<usize, Refusal>
     Ok(list.len())
 }
 
-// The answer of a layer without its entry at index i, followed by the k nodes that are marked and not skipped.
-fn answer_next(
-    mark: &[bool; 512],
-    skip: &[bool; 512],
-    n: usize,
-    k: usize,
-    layer: &[u16],
-    i: usize,
-    buffer: &mut [u16],
-) -> Result<usize, Refusal>
-    requires { (n ≤ 512) × (k ≡ length (kept mark.now skip.now n)) × (i < length layer.now) }
-    ensures { record { answer = result; buffer = buffer.new }
-        ≡ answers (without i layer.now ++ kept mark.now skip.now n) buffer.old }
-{
-    let rest = layer.len() - 1;
-    if buffer.len() < rest || buffer.len() - rest < k {
-        return Err(Refusal::ShortBuffer);
-    }
-    buffer[..i].copy_from_slice(&layer[..i]);
-    buffer[i..rest].copy_from_slice(&layer[i + 1..]);
-    write_kept(mark, skip, n, buffer, rest);
-    Ok(rest + k)
-}
-
-// The answer of new_front_layer where there are successors: they are marked, and the skipped ones wait.
-fn answer_layer(
-    mark: &[bool; 512],
-    skip: &[bool; 512],
-    n: usize,
-    layer: &[u16],
-    i: usize,
-    buffer: &mut [u16],
-) -> Result<usize, Refusal>
-    requires { (n ≤ 512) × (i < length layer.now) }
-    ensures { record { answer = result; buffer = buffer.new }
-        ≡ answers (layer_by (kept mark.now skip.now n) layer.now i) buffer.old }
-{
-    let k = count_kept(mark, skip, n);
-    if k == 0 {
-        return answer_list(layer, buffer);
-    }
-    answer_next(mark, skip, n, k, layer, i, buffer)
-}
-
-// 11 where the graph isn't sound, 8 where it has no node v.
-fn check_node(g: CircuitDag, v: NodeIndex) -> Result<(), Refusal>
-    ensures value { result ≡ check_node g v.0 }
-    ensures node { OnOk result ((v.0 < g.nodes.count) × (g.nodes.count ≤ 512)) }
-    ensures back { OnOk result (EndsBelow g.edges.from g.edges.to g.edges.count) }
-    ensures on { OnOk result (EndsBelow g.edges.to g.edges.from g.edges.count) }
-{
-    check_sound(g)?;
-    if g.nodes.count <= usize::from(v.0) {
-        return Err(Refusal::Absent);
-    }
-    Ok(())
-}
-
 // All nodes other than v from which v is reached, minus those in the executed list, ascending.
 #[tactic(auto, unfolding(crate::specs::Queries::execution_blocked))]
 pub fn execution_blocked(
@@ -329,14 +195,13 @@ pub fn execution_blocked(
     ensures { record { answer = result; buffer = buffer.new }
         ≡ execution_blocked g executed.now v.0 buffer.old }
 {
-    check_node(g, v)?;
-    let arcs = Arcs {
-        near: &g.edges.from,
-        far: &g.edges.to,
-        count: g.edges.count,
+    let node = check_node(g, v)?;
+    let kept = Kept {
+        mark: &ancestors(&Arcs::against(&g), node),
+        skip: &node.marked(listed(executed), true),
+        n: g.nodes.count,
     };
-    let mark = ancestors(&arcs, v);
-    answer_kept(&mark, &listed_with(executed, v), g.nodes.count, buffer)
+    kept.answer(buffer)
 }
 
 // The direct predecessors of v, minus those in the executed list, ascending.
@@ -350,14 +215,13 @@ pub fn blocking_predecessors(
     ensures { record { answer = result; buffer = buffer.new }
         ≡ blocking_predecessors g executed.now v.0 buffer.old }
 {
-    check_node(g, v)?;
-    let arcs = Arcs {
-        near: &g.edges.from,
-        far: &g.edges.to,
-        count: g.edges.count,
+    let node = check_node(g, v)?;
+    let kept = Kept {
+        mark: &neighbours_of(node, &Arcs::against(&g)),
+        skip: &listed(executed),
+        n: g.nodes.count,
     };
-    let mark = neighbours_of(v, &arcs);
-    answer_kept(&mark, &listed(executed), g.nodes.count, buffer)
+    kept.answer(buffer)
 }
 
 // The direct successors of v, ascending.
@@ -365,14 +229,13 @@ pub fn blocking_predecessors(
 pub fn successors(g: CircuitDag, v: NodeIndex, buffer: &mut [u16]) -> Result<usize, Refusal>
     ensures { record { answer = result; buffer = buffer.new } ≡ successors_rule g v.0 buffer.old }
 {
-    check_node(g, v)?;
-    let arcs = Arcs {
-        near: &g.edges.to,
-        far: &g.edges.from,
-        count: g.edges.count,
+    let node = check_node(g, v)?;
+    let kept = Kept {
+        mark: &neighbours_of(node, &Arcs::along(&g)),
+        skip: &no_marks(),
+        n: g.nodes.count,
     };
-    let mark = neighbours_of(v, &arcs);
-    answer_kept(&mark, &no_marks(), g.nodes.count, buffer)
+    kept.answer(buffer)
 }
 
 // The layer after v has run: its first occurrence goes and the successors that are not blocked follow, ascending;
@@ -388,22 +251,26 @@ pub fn new_front_layer(
     ensures { record { answer = result; buffer = buffer.new }
         ≡ new_front_layer g executed.now layer.now v.0 buffer.old }
 {
-    check_node(g, v)?;
+    let node = check_node(g, v)?;
     let Some(i) = index_in(layer, v) else {
         return Err(Refusal::NotInLayer);
     };
+    let arcs = Arcs::along(&g);
+    let next = neighbours_of(node, &arcs);
     let n = g.nodes.count;
-    let arcs = Arcs {
-        near: &g.edges.to,
-        far: &g.edges.from,
-        count: g.edges.count,
+    let all = Kept {
+        mark: &next,
+        skip: &no_marks(),
+        n,
     };
-    let next = neighbours_of(v, &arcs);
-    let blank = no_marks();
-    let all = count_kept(&next, &blank, n);
-    if all == 0 {
-        return answer_next(&next, &blank, n, all, layer, i, buffer);
+    let k = all.count();
+    if k == 0 {
+        return all.answer_next(k, layer, i, buffer);
     }
-    let bad = waiting(&listed_with(executed, v), &arcs);
-    answer_layer(&next, &bad, n, layer, i, buffer)
+    let freed = Kept {
+        mark: &next,
+        skip: &waiting(&node.marked(listed(executed), true), &arcs),
+        n,
+    };
+    freed.answer_layer(layer, i, buffer)
 }

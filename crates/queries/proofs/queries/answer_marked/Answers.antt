@@ -8,6 +8,6 @@ use Rattle.queries.proofs.queries.answer_marked.Goals as goal
 
 pub returns : goal.returns
 returns c =
-    let n = c.no_marks-none in
+    let n = c.no_marks in
     let l : length c.args.mark ≡ 512 = search rules in
-    answers_at (members c.args.mark) (kept c.args.mark n.result 512) c.args.buffer.now _ (sym (members_kept c.args.mark _ l n.ensures)) c.answer_kept.ensures
+    answers_at (members c.args.mark) (kept c.args.mark n.result 512) c.args.buffer.now _ (sym (members_kept c.args.mark _ l n.ensures)) c.answer.ensures

@@ -1,19 +1,23 @@
-use Rattle.std.proofs.Common.{sym, ◌∙◌}
 use Rattle.std.proofs.lemmas.Result.{err_from_is_err_and}
 use Rattle.graph.proofs.SizeLaws.{dag_sized}
+use Rattle.graph.proofs.SoundnessLaws.{sound_told}
 use Rattle.queries.specs.Queries.{execution_blocked}
-use Rattle.queries.proofs.QueryLaws.{asked, not-asked, blocked_answers}
+use Rattle.queries.proofs.MarkLaws.{lists_with}
+use Rattle.queries.proofs.QueryLaws.{not-asked, blocked_answers}
 use Rattle.queries.proofs.queries.execution_blocked.Goals as goal
 
-pub returns-in_err-check_node : goal.returns-in_err-check_node
+pub returns-in_err-node : goal.returns-in_err-node
 unfolding execution_blocked
-returns-in_err-check_node c =
+returns-in_err-node c =
     let p = err_from_is_err_and c.from_residual.result c.from_residual.ensures.1 in
-    rw (p.1, p.2) (not-asked _ _ _ _ _ (sym c.check_node.ensures.value ∙ c.in_err-check_node.was))
+    rw (p.1, p.2) (not-asked _ _ _ _ _ c.in_err-node.ensures.value)
 
 pub returns : goal.returns
 returns c =
     let a = c.args in
-    let n = asked a.g a.v.0 _ (dag_sized a.g _ c.well_formed.0).commuting.list (sym c.check_node.ensures.value ∙ c.in_ok-check_node.was) in
-    blocked_answers a.g n.is_sound n.told a.v.0 n.low a.buffer.now _ c.ancestors-mark.result c.listed_with.result a.executed.now
-    c.ancestors-mark.ensures c.listed_with.ensures c.answer_kept.ensures
+    let n = c.in_ok-node.ensures.value in
+    let s = sound_told a.g (dag_sized a.g _ c.well_formed.0).commuting.list n.1 in
+    let e = c.against.ensures in
+    blocked_answers a.g s n.1 a.v.0 n.2 a.buffer.now _ c.ancestors.result c.marked.result a.executed.now
+    (rw (e.near, e.far, e.count, n.0) at c.ancestors.ensures)
+    (rw (c.marked.ensures, ← n.0) (lists_with _ _ _ c.listed.ensures c.in_ok-node.node.low)) c.answer.ensures

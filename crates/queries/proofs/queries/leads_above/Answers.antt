@@ -1,12 +1,9 @@
-use Rattle.std.proofs.Common.{ℕ, ◌≤◌, leb, length, take, rules, arith}
-use Rattle.std.proofs.lemmas.List.Sorted.{IsPartitionPoint-from_clause}
-use Rattle.queries.proofs.MarkLaws.{parted, leads_by}
+use Rattle.std.proofs.Common.{ℕ, leb, leb-false, rules}
+use Rattle.std.proofs.lemmas.List.Sorted.{IsPartitionedBy-leb, IsPartitionPoint-from_clause}
 use Rattle.queries.proofs.queries.leads_above.Goals as goal
 
 pub returns : goal.returns
 returns c =
-    let a = c.args in
-    let long : a.m ≤ length a.far.now = omega (arith, c.told-far, c.requires.0) in
-    let p = IsPartitionPoint-from_clause (λ (x : ℕ). leb x a.v.0) (take a.m a.far.now) c.partition_point.result c.partition_point.ensures.partitioned
-    (parted a.far.now a.m a.v.0 c.requires.1 long) (λ b r f' k. search rules) in
-    leads_by a.far.now a.m a.v.0 _ long c.partition_point.ensures.bound p.1
+    let p = IsPartitionPoint-from_clause (λ (x : ℕ). leb x c.args.v.0) _ _ c.partition_point.ensures.partitioned
+    (IsPartitionedBy-leb (λ (x : ℕ). x) _ c.args.v.0 c.requires) (λ b r f' k. search rules) in
+    record { within = c.partition_point.ensures.bound; above = λ i a b. leb-false _ _ (p.1 i 0 a b) }

@@ -1,9 +1,9 @@
-use Rattle.std.proofs.Common.{refl, sym, ◌∙◌}
+use Rattle.std.proofs.Common.{sym, ◌∙◌}
 use Rattle.graph.proofs.SizeLaws.{dag_sized}
 use Rattle.graph.proofs.SoundnessLaws.{sound_told}
 use Rattle.queries.proofs.ReachLaws.{ends_back, ends_on}
 use Rattle.queries.proofs.QueryLaws.{sound_ok}
-use Rattle.queries.proofs.queries.check_node.Goals as goal
+use Rattle.queries.proofs.node.check_node.Goals as goal
 
 pub returns-clause-back : goal.returns-clause-back
 returns-clause-back c =
