@@ -14,7 +14,7 @@ use Rattle.queries.specs.Queries.{Lent, answers}
 use Rattle.queries.proofs.QueryLaws.{not_sound}
 use mathlib.Core.Logic.{◌≢◌}
 use Rattle.file.specs.Lists.{any_of, all_of, is_empty, members, onto}
-use Rattle.file.specs.declared.Refusal.TheVariants.{Absent, ShortBuffer, Unsound}
+use Rattle.file.specs.declared.Refusal.TheVariants.{Absent, ShortBuffer}
 use Rattle.graph.specs.declared.CircuitDag.{CircuitDag}
 use Rattle.graph.specs.Dag.{size}
 use Rattle.graph.specs.Soundness.{sound}

@@ -2,19 +2,18 @@
 use mathlib.Core.Path.{◌≡◌, refl, sym, ◌∙◌, ap}
 use mathlib.Core.Bool.{Bool, true, false, cond, ◌||◌}
 use mathlib.Core.Logic.{◌⊎◌, inl, inr, ⊎_elim, ◌≢◌}
-use mathlib.Core.List.{List, [], ◌∷◌, ◌++◌, map, append_assoc}
-use Prim.Native.Nat.{ℕ, zero, suc, ◌+◌, ◌-◌, ◌≤◌, ◌<◌, max}
+use mathlib.Core.List.{List, [], ◌∷◌, ◌++◌, map}
+use Prim.Native.Nat.{ℕ, zero, suc, ◌+◌, ◌≤◌, ◌<◌, max}
 use native.Mathlib.Omega.{arith}
-use native.Mathlib.Numerals.{add-one}
 use native.Mathlib.Decide.{dec_lt, ℕ_discrete}
 use lib.Dec.{ltb}
 use lib.ListN.{length, get_or, set, take, drop, length-set}
-use lib.Seq.{get_or-set_same, get_or-set_other, set-get_or, take-suc}
+use lib.Seq.{length-take-le, get_or-take, get_or-set_same, get_or-set_other, set-get_or, take-suc}
 use borrow.Author.Tests.{ltb-true, lt-ltb}
 use Rattle.file.specs.Lists.{onto, up_to}
 use Rattle.file.proofs.BoolLaws.{clash_bool, split_lt}
 use Rattle.graph.proofs.ListLaws.{length-up_to, up_to-suc}
-use Rattle.queries.specs.Marks.{EndsBelow}
+use Rattle.queries.specs.Marks.{EndsBelow, in_turn}
 use Rattle.walk.specs.Numbering.{at, following, Joined, Above, Swept, Rises, Settled, Begun, Zeroed, Counted}
 
 -- the arcs along the edges
@@ -33,23 +32,23 @@ stored l t x v h = elim (ℕ_discrete v t) [
 
 -- the place of edge i in the list
 abbrev pub turn : Bool → ℕ → ℕ → ℕ
-turn down m i = cond down (m - (i + 1)) i
+turn up m i = in_turn i m up
 
-pub turn_low : (down : Bool) (m i : ℕ) → i < m → turn down m i < m
-turn_low true m i h = omega arith
-turn_low false m i h = h
+pub turn_low : (up : Bool) (m i : ℕ) → i < m → turn up m i < m
+turn_low true m i h = h
+turn_low false m i h = omega arith
 
-turn-back : (down : Bool) (m i j : ℕ) → i < m → j < m → turn down m j ≡ i → j ≡ turn down m i
-turn-back true m i j h l e = omega arith
-turn-back false m i j h l e = e
+turn-back : (up : Bool) (m i j : ℕ) → i < m → j < m → turn up m j ≡ i → j ≡ turn up m i
+turn-back true m i j h l e = e
+turn-back false m i j h l e = omega arith
 
-module _ (from to : List ℕ) (m : ℕ) (down : Bool) (begun : List ℕ) where
+module _ (from to : List ℕ) (m : ℕ) (up : Bool) (begun : List ℕ) where
   pub record Sweeping (num : List ℕ) (changed : Bool) (i : ℕ) : Type 0 where
     pub joined : Joined from to m
     pub low : i ≤ m
     pub long : length num ≡ 512
     pub grows : (v : ℕ) → at begun v ≤ at num v
-    pub covers : (j : ℕ) → j < m → turn down m j < i → following (at begun (at from j)) ≤ at num (at to j)
+    pub covers : (j : ℕ) → j < m → turn up m j < i → following (at begun (at from j)) ≤ at num (at to j)
     pub same : changed ≡ false → num ≡ begun
     pub within : (N : ℕ → ℕ) → ((v : ℕ) → at begun v ≤ N v) → Above from to m N → (v : ℕ) → at num v ≤ N v
 
@@ -64,9 +63,9 @@ module _ (from to : List ℕ) (m : ℕ) (down : Bool) (begun : List ℕ) where
     within = λ N h a v. h v;
   }
 
-  module _ {num : List ℕ} {changed : Bool} {i : ℕ} (I : Sweeping num changed i) (more : i < m) (j : ℕ) (ej : j ≡ turn down m i) where
+  module _ {num : List ℕ} {changed : Bool} {i : ℕ} (I : Sweeping num changed i) (more : i < m) (j : ℕ) (ej : j ≡ turn up m i) where
     pub edge_low : j < m
-    edge_low = rw ej (turn_low down m i more)
+    edge_low = rw ej (turn_low up m i more)
 
     abbrev new : ℕ
     new = max (at num (at to j)) (following (at num (at from j)))
@@ -97,12 +96,12 @@ module _ (from to : List ℕ) (m : ℕ) (down : Bool) (begun : List ℕ) where
       long = length-set num (at to j) new ∙ I.long;
       grows = λ v. omega (arith, I.grows v, raises v);
       covers = λ k l h. ⊎_elim
-          (λ (e : turn down m k ≡ i).
-          let q : k ≡ j = turn-back down m i k more l e ∙ sym ej in
+          (λ (e : turn up m k ≡ i).
+          let q : k ≡ j = turn-back up m i k more l e ∙ sym ej in
           let s = get_or-set_same num (at to j) new 0 t_low in
           omega (arith, ap (λ (x : ℕ). at begun (at from x)) q, ap (λ (x : ℕ). at (set num (at to j) new) (at to x)) q, s, I.grows (at from j)))
-          (λ (e : turn down m k < i). omega (arith, I.covers k l e, raises (at to k)))
-          (split_lt (turn down m k) i h);
+          (λ (e : turn up m k < i). omega (arith, I.covers k l e, raises (at to k)))
+          (split_lt (turn up m k) i h);
       same = unchanged;
       within = λ N h a v. ⊎_elim
           (λ (p : (v ≡ at to j) × (at (set num (at to j) new) v ≡ new)). omega (arith, p.1, ap N p.0, a j edge_low, I.within N h a (at from j), I.within N h a (at to j)))
@@ -118,7 +117,7 @@ module _ (from to : List ℕ) (m : ℕ) (down : Bool) (begun : List ℕ) where
   sweep_done {i = i} I le = record {
     long = I.long;
     grows = I.grows;
-    covers = λ j l. I.covers j l (omega (arith, turn_low down m j l));
+    covers = λ j l. I.covers j l (omega (arith, turn_low up m j l));
     same = I.same;
     within = I.within;
   }
@@ -188,23 +187,21 @@ module _ (block : List Bool) where
   pub firsts-done : {num : List ℕ} {v : ℕ} → Firsts num v → 512 ≤ v → Begun block num
   firsts-done {v = v} I le = record { long = I.long; each = λ u l. I.each u (omega arith) }
 
-module _ (to : List ℕ) (m : ℕ) (begun : List ℕ) where
+module _ (to begun : List ℕ) where
   pub record Zeroing (num : List ℕ) (i : ℕ) : Type 0 where
-    pub room : m ≤ 2048
-    pub targets : (j : ℕ) → j < m → at to j < 512
-    pub low : i ≤ m
+    pub targets : (j : ℕ) → j < length to → at to j < 512
+    pub low : i ≤ length to
     pub long : length num ≡ 512
     pub hit : (j : ℕ) → j < i → at num (at to j) ≡ 0
-    pub kept : (v : ℕ) → ((j : ℕ) → j < m → at to j ≢ v) → at num v ≡ at begun v
+    pub kept : (v : ℕ) → ((j : ℕ) → j < length to → at to j ≢ v) → at num v ≡ at begun v
 
-  pub zero_begin : m ≤ 2048 → ((j : ℕ) → j < m → at to j < 512) → length begun ≡ 512 → Zeroing begun 0
-  zero_begin a b l = record { room = a; targets = b; low = omega arith; long = l; hit = λ j k. absurd (omega arith); kept = λ v h. refl }
+  pub zero_begin : ((j : ℕ) → j < length to → at to j < 512) → length begun ≡ 512 → Zeroing begun 0
+  zero_begin b l = record { targets = b; low = omega arith; long = l; hit = λ j k. absurd (omega arith); kept = λ v h. refl }
 
-  pub zero_more : {num : List ℕ} {i : ℕ} → Zeroing num i → (t : ℕ) → i < m → t ≡ at to i → Zeroing (set num t 0) (i + 1)
+  pub zero_more : {num : List ℕ} {i : ℕ} → Zeroing num i → (t : ℕ) → i < length to → t ≡ at to i → Zeroing (set num t 0) (i + 1)
   zero_more {num} {i} I t h e =
       let l : at to i < length num = omega (arith, I.targets i h, I.long) in
       rw e (record {
-        room = I.room;
         targets = I.targets;
         low = omega arith;
         long = length-set num (at to i) 0 ∙ I.long;
@@ -221,8 +218,23 @@ module _ (to : List ℕ) (m : ℕ) (begun : List ℕ) where
             (stored num (at to i) 0 v l);
       })
 
-  pub zero-done : {num : List ℕ} {i : ℕ} → Zeroing num i → m ≤ i → Zeroed to m begun num
+  pub zero-done : {num : List ℕ} {i : ℕ} → Zeroing num i → length to ≤ i → Zeroed to begun num
   zero-done {i = i} I le = record { long = I.long; hit = λ j l. I.hit j (omega arith); kept = I.kept }
+
+-- the targets of the first m edges, as a list
+pub targets_below : (to : List ℕ) (m : ℕ) → m ≤ length to → ((j : ℕ) → j < m → at to j < 512) → (j : ℕ) → j < length (take m to) → at (take m to) j < 512
+targets_below to m h b j k =
+    let n : length (take m to) ≡ m = length-take-le m to h in
+    omega (arith, get_or-take m to j 0 (omega arith), b j (omega arith))
+
+pub zeroed_first : (to : List ℕ) (m : ℕ) {old new : List ℕ} → m ≤ length to → Zeroed (take m to) old new
+    → (long : length new ≡ 512) × ((j : ℕ) → j < m → at new (at to j) ≡ 0) × ((v : ℕ) → ((j : ℕ) → j < m → at to j ≢ v) → at new v ≡ at old v)
+zeroed_first to m {old} {new} h Z =
+    let n : length (take m to) ≡ m = length-take-le m to h in (
+      Z.long,
+      λ j k. ap (at new) (sym (get_or-take m to j 0 k)) ∙ Z.hit j (omega arith),
+      λ v f. Z.kept v (λ j k e. f j (omega arith) (sym (get_or-take m to j 0 (omega arith)) ∙ e)),
+    )
 
 -- ---- the count
 
@@ -256,6 +268,15 @@ count_more {num} {v} {r} I r' e = go (ltb (at num v) 65535) refl e
 
 pub count-done : {num : List ℕ} {n v r : ℕ} → Counted num v r → v ≤ n → n ≤ v → Counted num n r
 count-done {n = n} {v = v} I h le = let z : v ≡ n = omega arith in rw z at I
+
+-- the first n numbers, as a list
+pub counted_first : {num : List ℕ} {n r : ℕ} → n ≤ length num → Counted (take n num) (length (take n num)) r → Counted num n r
+counted_first {num} {n} h C =
+    let l : length (take n num) ≡ n = length-take-le n num h in
+    record {
+      above = λ v k b. let e = get_or-take n num v 0 k in omega (arith, e, C.above v (omega arith) (omega (arith, e)));
+      reached = λ k e. let x = C.reached k e in (x.0, omega (arith, x.1), sym (get_or-take n num x.0 0 (omega (arith, x.1))) ∙ x.2, x.3);
+    }
 
 -- ---- the numbers in the lent buffer
 

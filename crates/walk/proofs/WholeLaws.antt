@@ -7,10 +7,10 @@ use Prim.Native.Nat.{ℕ, zero, suc, ◌≤◌, ◌<◌}
 use native.Mathlib.Omega.{arith}
 use native.Mathlib.Decide.{dec_lt}
 use lib.Dec.{ltb}
-use lib.ListN.{length, get_or, drop, get_or-eq_default, get_or-append}
+use lib.ListN.{length, get_or, take, drop, get_or-eq_default, get_or-append}
 use borrow.Author.Tests.{ltb-true, lt-ltb, le-ltb, not-true as not-flip}
 use Rattle.file.specs.Lists.{is_empty, onto, up_to}
-use Rattle.file.specs.declared.Refusal.TheVariants.{ShortBuffer, Unsound}
+use Rattle.file.specs.declared.Refusal.TheVariants.{ShortBuffer}
 use Rattle.graph.specs.declared.CircuitDag.{CircuitDag}
 use Rattle.graph.specs.Dag.{absent, size}
 use Rattle.graph.specs.Soundness.{sound, check_sound}
@@ -21,6 +21,7 @@ use Rattle.graph.proofs.ListLaws.{up_to_ext, up_to-at, length-up_to}
 use Rattle.graph.proofs.SoundnessLaws.{sound_told}
 use Rattle.walk.specs.Blocks.{Walked, blocks, number_from, block_numbers, whole_walk, block_of_step}
 use Rattle.walk.specs.Numbering.{at, following, Joined, Above, Rises, Settled, Begun, Zeroed, Counted}
+use Rattle.walk.proofs.NumberingLaws.{zeroed_first}
 use Rattle.walk.proofs.Bounds.{any, any_elim, any_none, any-and, greatest_le, greatest-at}
 use Rattle.walk.proofs.BlockSteps.{edge-at, at_edge, not-empty, empty-not, block-at}
 use Rattle.walk.proofs.BlockLaws.{W, edges, firsts, rank, upward, first_start, block-number, last_step, before_last, past_last, number_is}
@@ -102,16 +103,16 @@ module _ (g : CircuitDag) (s : sound g ≡ true) where
     to_low = λ j l. omega (arith, O.to_below j l, O.node-count);
   }
 
-  module _ (num₀ num₁ : List ℕ) (B : Begun g.first.block num₀) (Z : Zeroed g.edges.to g.edges.count num₀ num₁) where
+  module _ (num₀ num₁ : List ℕ) (B : Begun g.first.block num₀) (many : g.edges.count ≤ length g.edges.to) (Z : Zeroed (take g.edges.count g.edges.to) num₀ num₁) where
     kept : (v : ℕ) → v < 512 → ((u : ℕ) → E u v ≡ false) → at num₁ v ≡ cond (F v) 0 65535
-    kept v l h = Z.kept v (λ j k e. clash_bool (ap (λ (x : ℕ). E (at g.edges.from j) x) (sym e) ∙ at_edge g j k) (h (at g.edges.from j)))
+    kept v l h = (zeroed_first _ _ many Z).2 v (λ j k e. clash_bool (ap (λ (x : ℕ). E (at g.edges.from j) x) (sym e) ∙ at_edge g j k) (h (at g.edges.from j)))
         ∙ B.each v l
 
     alone : (v : ℕ) → any n (λ u. E u v) ≡ false → (u : ℕ) → E u v ≡ false
     alone v h u = not-true (λ e. clash_bool e (any_none n (λ u. E u v) h u ((W g s).from u v e)))
 
     zero_there : (u v : ℕ) → E u v ≡ true → at num₁ v ≡ 0
-    zero_there u v e = let r = edge-at g u v e in ap (at num₁) r.3 ∙ Z.hit r.0 r.1
+    zero_there u v e = let r = edge-at g u v e in ap (at num₁) r.3 ∙ (zeroed_first _ _ many Z).1 r.0 r.1
 
     -- no number is above its node's
     low_inside : (v : ℕ) → v < 512 → at num₁ v ≤ N v

@@ -3,6 +3,7 @@ ghost use Rattle.std.specs.Prelude.{◌≡◌, true, false, cond, not, ◌&&◌,
 ghost use Rattle.file.specs.Lists.{members, onto, up_to};
 ghost use Rattle.graph.specs.Dag.{size};
 ghost use Rattle.graph.specs.Soundness.{sound};
+ghost use Rattle.queries.specs.Marks.{in_turn};
 ghost use Rattle.walk.specs.Blocks.{whole_walk, blocks, number_from, joined, start, next};
 ghost use Rattle.walk.specs.Numbering.{at, following, Swept, Settled, Begun, Zeroed, Counted, Reaching, Freed, free_after};
 
@@ -15,27 +16,26 @@ use queries::{Arcs, answer_marked};
 fn raised(old: u16, before: u16) -> u16
     ensures { result ≡ max old (following before) }
 {
-    if before == 65535 {
-        return before;
-    }
-    old.max(before + 1)
+    old.max(before.saturating_add(1))
 }
 
-// The arc that comes i-th in a pass up or down the m arcs.
-fn in_turn(i: usize, m: usize, down: bool) -> usize
+// The arc that comes i-th in a pass up or down the m arcs. An enum of the two directions would say no more than the flag,
+// and the next pass's direction is its negation.
+fn in_turn(i: usize, m: usize, up: bool) -> usize
     requires { i < m }
-    ensures { result ≡ cond down (m - (i + 1)) i }
+    ensures { result ≡ in_turn i m up }
 {
-    if down { m - (i + 1) } else { i }
+    if up { i } else { m - (i + 1) }
 }
 
-// One pass along the edges, up or down the list: whether it changed a number.
-fn sweep(arcs: &Arcs, down: bool, num: &mut [u16; 512]) -> bool
+// One pass along the edges, up or down the list: whether it changed a number. Like the passes below it goes over indices:
+// both ends lie in arrays of which the first count entries stand, and cutting them first would measure each twice.
+fn sweep(arcs: &Arcs, up: bool, num: &mut [u16; 512]) -> bool
     ensures { Swept arcs.now.far.now arcs.now.near.now arcs.now.count num.old num.new result }
 {
     let mut changed = false;
     for i in 0..arcs.count {
-        let j = in_turn(i, arcs.count, down);
+        let j = in_turn(i, arcs.count, up);
         let t = usize::from(arcs.near[j]);
         let old = num[t];
         let new = raised(old, num[usize::from(arcs.far[j])]);
@@ -46,15 +46,15 @@ fn sweep(arcs: &Arcs, down: bool, num: &mut [u16; 512]) -> bool
 }
 
 // Passes up and down in turn until nothing changes, at most one for each node: no path is longer.
-fn settle(arcs: &Arcs, n: usize, begin_down: bool, num: &mut [u16; 512])
+fn settle(arcs: &Arcs, n: usize, first_up: bool, num: &mut [u16; 512])
     ensures { Settled arcs.now.far.now arcs.now.near.now arcs.now.count n num.old num.new }
 {
-    let mut down = begin_down;
+    let mut up = first_up;
     for _k in 0..n {
-        if !sweep(arcs, down, num) {
+        if !sweep(arcs, up, num) {
             return;
         }
-        down = !down;
+        up = !up;
     }
 }
 
@@ -65,7 +65,7 @@ fn number_at_first(member: bool) -> u16
     if member { 0 } else { 65535 }
 }
 
-// So for all nodes.
+// So for all nodes. A loop and no `map` of the array, which stops the proof at its limit: it is 512 calls.
 fn first_numbers(block: &[bool; 512]) -> [u16; 512]
     ensures { Begun block.now result }
 {
@@ -76,12 +76,13 @@ fn first_numbers(block: &[bool; 512]) -> [u16; 512]
     num
 }
 
-// 0 for every node with an incoming edge.
-fn number_targets(arcs: &Arcs, num: &mut [u16; 512])
-    ensures { Zeroed arcs.now.near.now arcs.now.count num.old num.new }
+// 0 for every target of an edge.
+fn number_targets(targets: &[u16], num: &mut [u16; 512])
+    requires { (j : ℕ) → j < length targets.now → at targets.now j < 512 }
+    ensures { Zeroed targets.now num.old num.new }
 {
-    for i in 0..arcs.count {
-        num[usize::from(arcs.near[i])] = 0;
+    for t in targets {
+        num[usize::from(*t)] = 0;
     }
 }
 
@@ -96,13 +97,12 @@ fn count_with(count: usize, x: u16) -> usize
 }
 
 // How many blocks the numbers name.
-fn count_blocks(num: &[u16; 512], n: usize) -> usize
-    requires { n ≤ 512 }
-    ensures { Counted num.now n result }
+fn count_blocks(num: &[u16]) -> usize
+    ensures { Counted num.now (length num.now) result }
 {
     let mut count: usize = 0;
-    for v in 0..n {
-        count = count_with(count, num[v]);
+    for x in num {
+        count = count_with(count, *x);
     }
     count
 }
@@ -112,14 +112,15 @@ fn numbers_of(g: CircuitDag) -> [u16; 512]
     requires { sound g ≡ true }
     ensures { (v : ℕ) → v < size g → at result v ≡ number_from 0 (blocks g) v }
 {
+    // A literal: a function that makes it for every crate would ask that the graph is sound, and a public one asks nothing.
     let arcs = Arcs {
         near: &g.edges.to,
         far: &g.edges.from,
         count: g.edges.count,
     };
     let mut num = first_numbers(&g.first.block);
-    number_targets(&arcs, &mut num);
-    settle(&arcs, g.nodes.count, 0 < g.fronts, &mut num);
+    number_targets(&g.edges.to[..g.edges.count], &mut num);
+    settle(&arcs, g.nodes.count, g.fronts == 0, &mut num);
     num
 }
 
@@ -133,11 +134,12 @@ pub fn whole_walk(g: CircuitDag, buffer: &mut [u16]) -> Result<usize, Refusal>
         return Err(Refusal::ShortBuffer);
     }
     let num = numbers_of(g);
-    buffer[..n].copy_from_slice(&num[..n]);
-    Ok(count_blocks(&num, n))
+    let num = &num[..n];
+    buffer[..n].copy_from_slice(num);
+    Ok(count_blocks(num))
 }
 
-// The members of either set.
+// The members of either set. The index goes over three arrays at once.
 fn join_marks(a: &[bool; 512], b: &[bool; 512]) -> [bool; 512]
     ensures { result ≡ joined a.now b.now }
 {
@@ -168,32 +170,24 @@ fn take_waiting(arcs: &Arcs, num: &[u16; 512], found: &mut [bool; 512])
     }
 }
 
-// The successors of the current nodes that are blocked by none.
-fn find_followers(g: CircuitDag, current: &[bool; 512], all: &[bool; 512]) -> [bool; 512]
+// The first block before a walk has started; afterwards the successors of the current nodes that are blocked by none.
+fn find_block(g: CircuitDag, current: &[bool; 512], all: &[bool; 512], started: bool) -> [bool; 512]
     requires { sound g ≡ true }
-    ensures { members result ≡ free_after g current.now all.now }
+    ensures { members result ≡ cond started (free_after g current.now all.now) (members g.first.block) }
 {
+    if !started {
+        return g.first.block;
+    }
     let arcs = Arcs {
         near: &g.edges.to,
         far: &g.edges.from,
         count: g.edges.count,
     };
     let mut num = first_numbers(all);
-    settle(&arcs, g.nodes.count, 0 < g.fronts, &mut num);
+    settle(&arcs, g.nodes.count, g.fronts == 0, &mut num);
     let mut found = targets_of(&arcs, current);
     take_waiting(&arcs, &num, &mut found);
     found
-}
-
-// The first block before a walk has started, the followers afterwards.
-fn find_block(g: CircuitDag, current: &[bool; 512], all: &[bool; 512], started: bool) -> [bool; 512]
-    requires { sound g ≡ true }
-    ensures { members result ≡ cond started (free_after g current.now all.now) (members g.first.block) }
-{
-    if started {
-        return find_followers(g, current, all);
-    }
-    g.first.block
 }
 
 impl ParallelBlocks {

@@ -1,5 +1,5 @@
 use Rattle.walk.specs.Numbering.{Counted}
 use Rattle.walk.proofs.whole.count_blocks.Given as goal
 
-abbrev pub invariant-loop-v : goal.invariant-loop-v
-invariant-loop-v l = Counted l.num l.v l.count
+abbrev pub invariant-loop-x : goal.invariant-loop-x
+invariant-loop-x l = Counted l.num l.x-index l.count

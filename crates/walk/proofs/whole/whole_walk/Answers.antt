@@ -1,7 +1,7 @@
-use Rattle.std.proofs.Common.{sym, ◌∙◌, rules}
+use Rattle.std.proofs.Common.{◌≡◌, sym, ◌∙◌, length, arith, rules}
 use Rattle.std.proofs.lemmas.Result.{err_from_is_err_and}
 use Rattle.queries.proofs.QueryLaws.{sound_ok}
-use Rattle.walk.proofs.NumberingLaws.{written}
+use Rattle.walk.proofs.NumberingLaws.{counted_first, written}
 use Rattle.walk.proofs.WholeLaws.{walk_refused, walk_short, walk_whole}
 use Rattle.walk.proofs.whole.whole_walk.Goals as goal
 
@@ -16,5 +16,6 @@ returns-then-buffer-n c = walk_short _ _ (sound_ok _ _ (sym c.check_sound.ensure
 pub returns : goal.returns
 returns c =
     let told = sound_ok _ _ (sym c.check_sound.ensures.value ∙ c.in_ok-check_sound.was) in
-    walk_whole _ _ told c.if-buffer-n.false c.numbers_of-num.result _ _ c.numbers_of-num.ensures c.count_blocks.ensures
+    let long : length c.numbers_of-num.result ≡ 512 = search rules in
+    walk_whole _ _ told c.if-buffer-n.false c.numbers_of-num.result _ _ c.numbers_of-num.ensures (counted_first (omega (arith, long, c.in_ok-check_sound.ensures.counts.nodes)) c.count_blocks.ensures)
     (written _ _ _ _ c.in_ok-check_sound.ensures.counts.nodes (search rules) c.if-buffer-n.false c.copy_from_slice.ensures.after)
