@@ -1,54 +1,51 @@
--- The accessors: the key's entry in a register map, and the answers. Assumes nothing.
-use mathlib.Core.Path.{◌≡◌, refl, sym, ◌∙◌}
+-- The accessors: the key's entry in a register map. Assumes nothing.
+use mathlib.Core.Path.{◌≡◌, refl, sym, ◌∙◌, ap}
 use mathlib.Core.Bool.{Bool, true, false, cond, ◌&&◌}
 use mathlib.Core.List.{List, map}
-use Prim.Native.Nat.{ℕ, suc, ◌+◌, ◌-◌, ◌≤◌, ◌<◌}
+use Prim.Native.Nat.{ℕ, zero, suc, ◌+◌, ◌≤◌, ◌<◌}
 use native.Mathlib.Omega.{arith}
+use native.Mathlib.Decide.{ℕ_discrete}
 use lib.Dec.{eqb}
 use lib.ListN.{get_or}
-use borrow.Author.Tests.{eq-eqb, ne_eqb}
+use borrow.Author.Tests.{eqb-true, eq-eqb}
 use Rattle.file.specs.Lists.{count_from}
 use Rattle.file.specs.declared.RegisterKey.{RegisterKey}
+use Rattle.file.proofs.BoolLaws.{not-true, and_l, and_r}
 use Rattle.graph.specs.declared.Registers.{Registers}
 use Rattle.graph.specs.Dag.{Entry, node, entry_at, entries_of}
-use Rattle.accessors.specs.Accessors.{node_of_key}
+use Rattle.accessors.specs.Accessors.{HasKey, node_of_key}
 use Rattle.std.specs.Prelude.{Some, None}
 
 module _ (r : Registers) (k : RegisterKey) where
-  -- the entries from i on
-  abbrev left : ℕ → List Entry
-  left i = map (entry_at r) (count_from (r.count - i) i)
+  -- n entries from i on
+  abbrev part : ℕ → ℕ → List Entry
+  part n i = map (entry_at r) (count_from n i)
 
-  -- no entry before i has the key
-  pub record Searching (i : ℕ) : Type 0 where
-    pub few : r.count ≤ 256
-    pub low : i ≤ r.count
-    pub same : node_of_key k (left i) ≡ node_of_key k (entries_of r)
+  -- whether entry i has the key
+  abbrev here : ℕ → Bool
+  here i = eqb (get_or r.name i 0) k.name && eqb (get_or r.index i 0) k.index
 
-  pub none_searched : r.count ≤ 256 → Searching 0
-  none_searched f = record { few = f; low = omega arith; same = let z : r.count - 0 ≡ r.count = omega arith in rw z refl }
-
-  pub not_there : (i : ℕ) → Searching i → r.count ≤ i → None ≡ node_of_key k (entries_of r)
+  turn : (n i : ℕ) (b : Bool) → here i ≡ b → node_of_key k (part (suc n) i) ≡ cond b (Some (node (get_or r.node i 0))) (node_of_key k (part n (i + 1)))
   unfolding node_of_key count_from
-  not_there i S h = let z : r.count - i ≡ 0 = omega arith in rw z at S.same
+  turn n i b e = rw e refl
 
-  module _ (i : ℕ) (S : Searching i) (h : i < r.count) where
-    -- whether entry i has the key
-    abbrev here : Bool
-    here = eqb (get_or r.name i 0) k.name && eqb (get_or r.index i 0) k.index
+  other : (i : ℕ) → (HasKey r k i → ⊥) → here i ≡ false
+  other i f = not-true (λ t. f (record { name = eqb-true _ _ (and_l _ _ t); index = eqb-true _ _ (and_r _ _ t) }))
 
-    turn : (b : Bool) → here ≡ b → node_of_key k (left i) ≡ cond b (Some (node (get_or r.node i 0))) (node_of_key k (left (i + 1)))
-    unfolding node_of_key count_from
-    turn b e = let z : r.count - i ≡ suc (r.count - (i + 1)) = omega arith in rw (z, e) refl
+  found : (n i p : ℕ) → i ≤ p → p < i + n → HasKey r k p → ((j : ℕ) → i ≤ j → j < p → HasKey r k j → ⊥) → Some (node (get_or r.node p 0)) ≡ node_of_key k (part n i)
+  found zero i p a b h f = absurd (omega arith)
+  found (suc n) i p a b h f = elim (ℕ_discrete p i) [
+    | yes e ↦ ap (λ (x : ℕ). Some (node (get_or r.node x 0))) e ∙ sym (turn n i true (ap here (sym e) ∙ rw (eq-eqb _ _ h.name, eq-eqb _ _ h.index) refl))
+    | no e ↦ found n (i + 1) p (omega arith) (omega arith) h (λ j x y. f j (omega arith) y) ∙ sym (turn n i false (other i (f i (omega arith) (omega arith))))
+  ]
 
-    pub key_here : get_or r.name i 0 ≡ k.name → get_or r.index i 0 ≡ k.index → Some (node (get_or r.node i 0)) ≡ node_of_key k (entries_of r)
-    key_here x y = sym (turn true (rw (eq-eqb _ _ x, eq-eqb _ _ y) refl)) ∙ S.same
+  missing : (n i : ℕ) → ((j : ℕ) → i ≤ j → j < i + n → HasKey r k j → ⊥) → None ≡ node_of_key k (part n i)
+  unfolding node_of_key count_from
+  missing zero i f = refl
+  missing (suc n) i f = missing n (i + 1) (λ j x y. f j (omega arith) (omega arith)) ∙ sym (turn n i false (other i (f i (omega arith) (omega arith))))
 
-    next : here ≡ false → Searching (i + 1)
-    next t = record { few = S.few; low = omega arith; same = sym (turn false t) ∙ S.same }
+  pub key_at : (p : ℕ) → p < r.count → HasKey r k p → ((j : ℕ) → j < p → HasKey r k j → ⊥) → Some (node (get_or r.node p 0)) ≡ node_of_key k (entries_of r)
+  key_at p l h f = found r.count 0 p (omega arith) (omega arith) h (λ j x y. f j y)
 
-    pub other_name : (get_or r.name i 0 ≡ k.name → ⊥) → Searching (i + 1)
-    other_name x = next (rw (ne_eqb _ _ x) refl)
-
-    pub other_index : get_or r.name i 0 ≡ k.name → (get_or r.index i 0 ≡ k.index → ⊥) → Searching (i + 1)
-    other_index x y = next (rw (eq-eqb _ _ x, ne_eqb _ _ y) refl)
+  pub key_absent : ((j : ℕ) → j < r.count → HasKey r k j → ⊥) → None ≡ node_of_key k (entries_of r)
+  key_absent f = missing r.count 0 (λ j x y. f j (omega arith))

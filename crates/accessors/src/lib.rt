@@ -3,7 +3,7 @@
 
 ghost use Rattle.std.specs.Prelude.{◌≡◌, ◌≤◌};
 ghost use Rattle.graph.specs.Dag.{at_qubit, entries_of};
-ghost use Rattle.accessors.specs.Accessors.{operation_of, node_of_key, get as get_rule, commuting_operations, first_parallel_block, last_parallel_block};
+ghost use Rattle.accessors.specs.Accessors.{operation_of, node_of_key, FirstWith, get as get_rule, commuting_operations, first_parallel_block, last_parallel_block};
 ghost use Rattle.accessors.specs.Accessors.{first_involving_qubit, last_involving_qubit, first_involving_classical, last_involving_classical};
 
 use file::{Refusal, RegisterKey};
@@ -65,7 +65,7 @@ pub fn last_parallel_block(g: CircuitDag, buffer: &mut [u16]) -> Result<usize, R
     answer_marked(g.last.block, buffer)
 }
 
-// The operation that an end's map has at a qubit.
+// The operation that an end's map has at a qubit. The source has a name for each end, as below; here is what they share.
 fn at_qubit(end: End, q: Qubit) -> Option<NodeIndex>
     ensures { result ≡ operation_of (at_qubit end q.0) }
 {
@@ -96,17 +96,21 @@ pub fn last_operation_involving_qubit(g: CircuitDag, q: Qubit) -> Result<Option<
     Ok(at_qubit(g.last, q))
 }
 
+// The first position in a register map that has a key.
+fn position_of(r: &Registers, key: RegisterKey) -> Option<usize>
+    requires { r.now.count ≤ 256 }
+    ensures { FirstWith r.now key result }
+{
+    (0..r.count).find(|i| r.name[*i] == key.name && r.index[*i] == key.index)
+}
+
 // The operation that a register map has at a key.
 fn at_key(r: Registers, key: RegisterKey) -> Option<NodeIndex>
     requires { r.count ≤ 256 }
     ensures { result ≡ node_of_key key (entries_of r) }
 {
-    for i in 0..r.count {
-        if r.name[i] == key.name && r.index[i] == key.index {
-            return Some(NodeIndex(r.node[i]));
-        }
-    }
-    None
+    let i = position_of(&r, key)?;
+    Some(NodeIndex(r.node[i]))
 }
 
 // The first operation that involves a classical register's entry.
