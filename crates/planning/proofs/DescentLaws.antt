@@ -1,13 +1,13 @@
 -- The code of the chain: each loop's invariant, what keeps it, and that the descent over the arrays is the chain. Assumes nothing.
 use mathlib.Core.Path.{◌≡◌, refl, sym, ◌∙◌, ap, subst}
-use mathlib.Core.Bool.{Bool, true, false, cond, ◌&&◌}
+use mathlib.Core.Bool.{true, false, ◌&&◌}
 use mathlib.Core.Logic.{◌⊎◌, inl, inr, ⊎_elim}
 use mathlib.Core.List.{List, [], ◌∷◌}
 use Prim.Native.Nat.{ℕ, suc, ◌+◌, ◌-◌, ◌≤◌, ◌<◌, min}
 use native.Mathlib.Omega.{arith}
+use lib.Seq.{length-take-le, get_or-take}
 use native.Mathlib.Decide.{dec_lt}
-use lib.Dec.{eqb}
-use lib.ListN.{length, get_or, set, drop, replicate, length-set, length-replicate, get_or-append}
+use lib.ListN.{length, get_or, set, take, drop, replicate, length-set, length-replicate, get_or-append}
 use borrow.Author.Tests.{eqb-true, eq-eqb}
 use Rattle.file.specs.Lists.{onto, put_at}
 use Rattle.file.specs.declared.Refusal.{Refusal}
@@ -16,7 +16,7 @@ use Rattle.graph.specs.declared.CircuitDag.{CircuitDag}
 use Rattle.graph.specs.Dag.{absent, size}
 use Rattle.graph.specs.Soundness.{sound}
 use Rattle.queries.specs.Queries.{Lent}
-use Rattle.file.proofs.BoolLaws.{bool_cases, clash_bool, and_l, and_r, and_intro, split_lt}
+use Rattle.file.proofs.BoolLaws.{bool_cases, and_l, and_r, and_intro, split_lt}
 use Rattle.file.proofs.PutLaws.{put-none, put_one, put-put, length-put}
 use Rattle.queries.proofs.BufferLaws.{answers_short, answers-whole}
 use Rattle.graph.proofs.ListLaws.{any_default}
@@ -36,33 +36,15 @@ use Rattle.std.specs.Prelude.{Result, Ok, Err}
 
 -- ---- the smallest node of a block
 
-module _ (number : List ℕ) (n t : ℕ) where
-  pub record Missing (u : ℕ) : Type 0 where
-    pub cap : n ≤ 512
-    pub low : u ≤ n
-    pub none : (w : ℕ) → w < u → at number w ≡ t → ⊥
-
-  pub missing_begin : n ≤ 512 → Missing 0
-  missing_begin h = record { cap = h; low = omega arith; none = λ w l e. omega arith }
-
-  pub missing_more : {u : ℕ} → Missing u → u < n → (x : ℕ) → x ≡ at number u → (x ≡ t → ⊥) → Missing (u + 1)
-  missing_more {u} I h x e f = record {
-    cap = I.cap;
-    low = omega arith;
-    none = λ w l q. ⊎_elim (λ (k : w ≡ u). f (e ∙ ap (at number) (sym k) ∙ q)) (λ (k : w < u). I.none w k q) (split_lt w u l);
-  }
-
-  pub member-found : {u : ℕ} → Missing u → u < n → (x : ℕ) → x ≡ at number u → x ≡ t → Smallest (InBlock number n t) u
-  member-found {u} I h x e f = record {
-    least = λ w p. elim (dec_lt w u) [ yes l ↦ absurd (I.none w l p.1) | no l ↦ omega arith ];
-    passes = λ w p. (h, sym e ∙ f);
-  }
-
-  pub member-none : {u : ℕ} → Missing u → n ≤ u → Smallest (InBlock number n t) 65535
-  member-none {u} I h = record {
-    least = λ w p. absurd (I.none w (omega (arith, p.0)) p.1);
-    passes = λ w p. absurd (I.none w (omega (arith, p.0)) p.1);
-  }
+-- the first n numbers, as a list
+pub smallest_first : (number : List ℕ) (n t : ℕ) {r : ℕ} → n ≤ length number → Smallest (InBlock (take n number) (length (take n number)) t) r → Smallest (InBlock number n t) r
+smallest_first number n t h S =
+    let l : length (take n number) ≡ n = length-take-le n number h in
+    let inside : (u : ℕ) → InBlock number n t u → InBlock (take n number) (length (take n number)) t u = λ u p. (omega (arith, p.0), get_or-take n number u 0 p.0 ∙ p.1) in
+    record {
+      least = λ u p. S.least u (inside u p);
+      passes = λ u p. let q = S.passes u (inside u p) in let b : _ < n = omega (arith, q.0) in (b, sym (get_or-take n number _ 0 b) ∙ q.1);
+    }
 
 -- ---- the smallest direct predecessor
 
@@ -76,30 +58,24 @@ module _ (number from to : List ℕ) (m v t : ℕ) where
   pub search_begin : EndsBelow from to m → Searching 65535 0
   search_begin J = record { joined = J; low = omega arith; least = λ i l h. absurd (omega arith); found = inl refl }
 
-  pub search_more : {best j : ℕ} → Searching best j → j < m → (f new : ℕ) → f ≡ at from j
-      → new ≡ cond (eqb (at to j) v && eqb (at number f) t) (min best (at from j)) best → Searching new (j + 1)
-  search_more {best} {j} I h f new q e = go (eqb (at to j) v) (eqb (at number (at from j)) t) refl refl (rw q at e)
-    where
-      keeps : (new ≡ best) → (Leads number from to m v t j → ⊥) → Searching new (j + 1)
-      keeps q f = record {
-        joined = I.joined;
-        low = omega arith;
-        least = λ i l x. ⊎_elim (λ (k : i ≡ j). absurd (f (subst (Leads number from to m v t) k x))) (λ (k : i < j). omega (arith, I.least i k x)) (split_lt i j l);
-        found = subst (λ (b : ℕ). (b ≡ 65535) ⊎ Before number from to m v t b) (sym q) I.found;
-      }
+  pub search_not : {best j : ℕ} → Searching best j → j < m → (Leads number from to m v t j → ⊥) → (new : ℕ) → new ≡ best → Searching new (j + 1)
+  search_not I h f new q = record {
+    joined = I.joined;
+    low = omega arith;
+    least = λ i l x. ⊎_elim (λ (k : i ≡ _). absurd (f (subst (Leads number from to m v t) k x))) (λ (k : i < _). omega (arith, I.least i k x)) (split_lt i _ l);
+    found = subst (λ (b : ℕ). (b ≡ 65535) ⊎ Before number from to m v t b) (sym q) I.found;
+  }
 
-      go : (a b : Bool) → eqb (at to j) v ≡ a → eqb (at number (at from j)) t ≡ b → new ≡ cond (a && b) (min best (at from j)) best → Searching new (j + 1)
-      go true true p q e = record {
-        joined = I.joined;
-        low = omega arith;
-        least = λ i l x. ⊎_elim (λ (k : i ≡ j). omega (arith, ap (at from) k)) (λ (k : i < j). omega (arith, I.least i k x)) (split_lt i j l);
-        found = elim (dec_lt (at from j) best) [
-          | yes l ↦ inr (j, (h, eqb-true _ _ p, eqb-true _ _ q), omega arith)
-          | no l ↦ (let z : best ≡ new = omega arith in subst (λ (b : ℕ). (b ≡ 65535) ⊎ Before number from to m v t b) z I.found)
-        ];
-      }
-      go true false p q e = keeps e (λ x. clash_bool (eq-eqb _ _ x.2) q)
-      go false b p q e = keeps e (λ x. clash_bool (eq-eqb _ _ x.1) p)
+  pub search_yes : {best j : ℕ} → Searching best j → j < m → at to j ≡ v → at number (at from j) ≡ t → (new : ℕ) → new ≡ min best (at from j) → Searching new (j + 1)
+  search_yes {best} {j} I h p q new e = record {
+    joined = I.joined;
+    low = omega arith;
+    least = λ i l x. ⊎_elim (λ (k : i ≡ j). omega (arith, ap (at from) k)) (λ (k : i < j). omega (arith, I.least i k x)) (split_lt i j l);
+    found = elim (dec_lt (at from j) best) [
+      | yes l ↦ inr (j, (h, p, q), omega arith)
+      | no l ↦ (let z : best ≡ new = omega arith in subst (λ (b : ℕ). (b ≡ 65535) ⊎ Before number from to m v t b) z I.found)
+    ];
+  }
 
   pub search_done : {best j : ℕ} → Searching best j → m ≤ j → Smallest (Before number from to m v t) best
   search_done {best} {j} I h = record {

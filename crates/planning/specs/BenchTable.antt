@@ -1,5 +1,5 @@
 -- "Bench table (proved)": "The ten cases above are one theorem about the rules." Assumes nothing.
-use Rattle.std.specs.Prelude.{◌≡◌, List, [], ◌∷◌, ◌++◌, map, ℕ, ◌+◌, ◌^◌, negsuc, replicate, Ok, None}
+use Rattle.std.specs.Prelude.{◌≡◌, List, [], ◌∷◌, ◌++◌, map, ℕ, ◌+◌, ◌^◌, negsuc, replicate, Ok}
 use Rattle.file.specs.declared.Refusal.TheVariants.{EmptySet}
 use Rattle.graph.specs.declared.CircuitDag.{CircuitDag}
 use Rattle.graph.specs.Dag.{Node, absent, edge, entry, nodes_of, edges_of, entries_of, at_qubit}

@@ -1,5 +1,5 @@
 // The chain: from the smallest node of the last block down to block 0.
-ghost use Rattle.std.specs.Prelude.{◌≡◌, cond, ◌&&◌, ◌+◌, ◌≤◌, ◌<◌, min, eqb, length};
+ghost use Rattle.std.specs.Prelude.{◌≡◌, ◌+◌, ◌≤◌, ◌<◌, length};
 ghost use Rattle.planning.specs.Chain.{chain as chain_rule};
 ghost use Rattle.planning.specs.Descents.{InBlock, Before, Smallest, Descended};
 
@@ -7,37 +7,28 @@ use file::Refusal;
 use graph::{CircuitDag, NodeIndex};
 use queries::Arcs;
 
-// The smallest node below n with the block's number.
-fn smallest_member(number: &[u16; 512], n: usize, block: usize) -> NodeIndex
-    requires { n ≤ 512 }
-    ensures { Smallest (InBlock number.now n block) result.0 }
+// The smallest node with the block's number.
+fn smallest_member(number: &[u16], block: usize) -> NodeIndex
+    requires { length number.now ≤ 512 }
+    ensures { Smallest (InBlock number.now (length number.now) block) result.0 }
 {
-    for u in 0..n {
-        if usize::from(number[u]) == block {
-            return NodeIndex(u as u16);
-        }
+    match number.iter().position(|x| usize::from(*x) == block) {
+        Some(u) => NodeIndex(u as u16),
+        None => NodeIndex(65535),
     }
-    NodeIndex(65535)
 }
 
-// The smaller of two nodes, if the second one's edge leads to v and its number is the block's.
-fn smaller_of(best: u16, node: u16, to: u16, v: NodeIndex, number: u16, block: usize) -> u16
-    ensures { result ≡ cond (eqb to v.0 && eqb number block) (min best node) best }
-{
-    if to == v.0 && usize::from(number) == block {
-        return best.min(node);
-    }
-    best
-}
-
-// The smallest direct predecessor of v with the block's number; the arcs lead against the edges.
+// The smallest direct predecessor of v with the block's number; the arcs lead against the edges. It goes over indices: both
+// ends lie in arrays of which the first count entries stand, and cutting them first would measure each twice.
 fn smallest_predecessor(number: &[u16; 512], arcs: &Arcs, v: NodeIndex, block: usize) -> NodeIndex
     ensures { Smallest (Before number.now arcs.now.near.now arcs.now.far.now arcs.now.count v.0 block) result.0 }
 {
     let mut best: u16 = 65535;
     for j in 0..arcs.count {
         let node = arcs.near[j];
-        best = smaller_of(best, node, arcs.far[j], v, number[usize::from(node)], block);
+        if arcs.far[j] == v.0 && usize::from(number[usize::from(node)]) == block {
+            best = best.min(node);
+        }
     }
     NodeIndex(best)
 }
@@ -77,13 +68,14 @@ pub fn chain(dag: CircuitDag, buffer: &mut [u16]) -> Result<usize, Refusal>
     if count == 0 {
         return Ok(0);
     }
+    // A literal: a function that makes it for every crate would ask that the graph is sound, and a public one asks nothing.
     let arcs = Arcs {
         near: &dag.edges.from,
         far: &dag.edges.to,
         count: dag.edges.count,
     };
     let last = count - 1;
-    let v = smallest_member(&number, dag.nodes.count, last);
+    let v = smallest_member(&number[..dag.nodes.count], last);
     descend(&number, &arcs, v, last, buffer, 0);
     Ok(count)
 }

@@ -1,10 +1,12 @@
-use Rattle.std.proofs.Common.{refl}
+use Rattle.std.proofs.Common.{◌≡◌, refl, sym, length, arith, rules}
 use Rattle.std.proofs.lemmas.Result.{err_from_is_err_and}
+use Rattle.graph.specs.Dag.{size}
+use Rattle.std.proofs.lemmas.List.{length-take, length-take-le}
 use Rattle.graph.proofs.SizeLaws.{dag_sized}
 use Rattle.graph.proofs.SoundnessLaws.{sound_told}
 use Rattle.queries.proofs.ReachLaws.{ends_back}
 use Rattle.walk.proofs.BlockLaws.{W}
-use Rattle.planning.proofs.DescentLaws.{walk_told, walk_refused, chain_short, chain-none, chain-done}
+use Rattle.planning.proofs.DescentLaws.{walk_told, walk_refused, chain_short, chain-none, chain-done, smallest_first}
 use Rattle.planning.proofs.chains.chain.Goals as goal
 
 pub returns-in_err-count : goal.returns-in_err-count
@@ -25,7 +27,7 @@ returns-then-count-eq0 c =
 pub smallest_member-v-requires : goal.smallest_member-v-requires
 smallest_member-v-requires c =
     let t = walk_told _ _ _ _ c.in_ok-count.was c.whole_walk.ensures in
-    (W _ t.sound).cap
+    omega (arith, length-take (size c.args.dag) c.whole_walk.new.buffer, (W _ t.sound).cap)
 
 pub invariant_of-arcs : goal.invariant_of-arcs
 invariant_of-arcs c =
@@ -36,4 +38,18 @@ invariant_of-arcs c =
 pub returns : goal.returns
 returns c =
     let t = walk_told _ _ _ _ c.in_ok-count.was c.whole_walk.ensures in
-    chain-done _ t.sound _ t.same _ _ _ _ _ t.count c.if-buffer-count.false c.if-count-eq0.false refl c.smallest_member-v.ensures c.descend.ensures
+    let long : length c.whole_walk.new.buffer ≡ 512 = search rules in
+    chain-done _ t.sound _ t.same _ _ _ _ _ t.count c.if-buffer-count.false c.if-count-eq0.false refl
+    (smallest_first _ _ _ (omega (arith, long, (W _ t.sound).cap)) c.smallest_member-v.ensures) c.descend.ensures
+
+pub slice_bounds-number-end : goal.slice_bounds-number-end
+slice_bounds-number-end c =
+    let t = walk_told _ _ _ _ c.in_ok-count.was c.whole_walk.ensures in
+    let long : length c.whole_walk.new.buffer ≡ 512 = search rules in
+    omega (arith, long, (W _ t.sound).cap)
+
+pub slice_bounds-smallest_member-end : goal.slice_bounds-smallest_member-end
+slice_bounds-smallest_member-end c =
+    let t = walk_told _ _ _ _ c.in_ok-count.was c.whole_walk.ensures in
+    let long : length c.whole_walk.new.buffer ≡ 512 = search rules in
+    sym (length-take-le (size c.args.dag) c.whole_walk.new.buffer (omega (arith, long, (W _ t.sound).cap)))
