@@ -19,7 +19,6 @@ use Rattle.file.specs.declared.InvolvedQubits.TheVariants.{Set}
 use Rattle.file.specs.declared.InvolvedClassical.TheVariants.{None as NoRegister}
 use Rattle.file.specs.declared.Place.{Place}
 use Rattle.file.proofs.BoolLaws.{and_intro, flip-not}
-use Rattle.file.proofs.PutLaws.{length-count_from}
 use Rattle.file.proofs.PairLaws.{pair_there}
 use Rattle.file.proofs.TightLaws.{tight_file_lem}
 use Rattle.writing.specs.Writing.{bytes_of, pairs_from, join_records, file_of, end_byte, gate, ReadsAgain, FileReads}
@@ -295,19 +294,16 @@ gate-refused true = refl
 gate-refused false = refl
 
 -- records of 14 bytes
-module _ (f : ℕ → List ℕ) (h : (i : ℕ) → length (f i) ≡ 14) where
-  join-length : (m k : ℕ) → length (join_records (map f (count_from m k))) ≡ 14 * m
-  unfolding join_records count_from
-  join-length zero k = refl
-  join-length (suc m) k = length-append (f k) (join_records (map f (count_from m (k + 1)))) ∙ omega (arith, h k, join-length m (k + 1))
+module _ {A : Type 0} (f : A → List ℕ) (h : (x : A) → length (f x) ≡ 14) where
+  join-length : (l : List A) → length (join_records (map f l)) ≡ 14 * length l
+  unfolding join_records
+  join-length [] = refl
+  join-length (x ∷ l) = length-append (f x) (join_records (map f l)) ∙ omega (arith, h x, join-length l)
 
-  pub count-records : (n : ℕ) → length (map f (up_to n)) ≡ n
-  count-records n = length-map (up_to n) f ∙ length-count_from n 0
-
-  -- the length of a file of n such records
-  pub gates_length : (n : ℕ) → length (file_of (map f (up_to n))) ≡ 2 + 18 * n
-  gates_length n = omega (arith, file_length (map f (up_to n)), count-records n, join-length n 0)
+  -- the length of a file of such records
+  pub gates_length : (l : List A) → length (file_of (map f l)) ≡ 2 + 18 * length l
+  gates_length l = omega (arith, file_length (map f l), length-map l f, join-length l)
 
   -- at most 512 of them read again
-  pub gates_read : (n : ℕ) → n ≤ 512 → ReadsAgain (map f (up_to n))
-  gates_read n few = reads_again (map f (up_to n)) (omega (arith, count-records n)) (omega (arith, gates_length n))
+  pub gates_read : (l : List A) → length l ≤ 512 → ReadsAgain (map f l)
+  gates_read l few = reads_again (map f l) (omega (arith, length-map l f)) (omega (arith, gates_length l))

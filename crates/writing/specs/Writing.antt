@@ -1,10 +1,11 @@
 -- A circuit file made of records, without slack, and what the writers leave in a lent buffer. Assumes nothing.
-use Rattle.std.specs.Prelude.{◌≡◌, Bool, false, cond, List, [], ◌∷◌, ◌++◌, map, ℕ, zero, suc, ◌+◌, ◌*◌, ◌/◌, ◌%◌, ◌≤◌, ◌<◌, ltb, leb, length, get_or, Result, Ok, Err}
-use Rattle.file.specs.Lists.{up_to, onto, put_at}
+use Rattle.std.specs.Prelude.{◌≡◌, Bool, cond, List, [], ◌∷◌, ◌++◌, map, ℕ, zero, suc, ◌+◌, ◌*◌, ◌/◌, ◌%◌, ◌≤◌, ◌<◌, ltb, leb, length, get_or, Result, Ok, Err}
+use Rattle.file.specs.Lists.{onto, put_at}
 use Rattle.file.specs.Pairs.{count_of, check_file, record_at, records_of}
 use Rattle.file.specs.Tight.{tight_file}
 use Rattle.file.specs.declared.Refusal.{Refusal}
 use Rattle.file.specs.declared.Refusal.TheVariants.{TooManyRecords, ShortBuffer}
+use Rattle.writing.specs.declared.Gate.{Gate}
 
 -- "All fields are unsigned, little-endian": a number as k bytes
 unfoldable pub bytes_of : ℕ → ℕ → List ℕ
@@ -34,13 +35,13 @@ end_byte front = cond front 1 0
 unfoldable pub gate : ℕ → ℕ → List ℕ
 gate e m = e ∷ 0 ∷ 2 ∷ (bytes_of 8 m ++ (0 ∷ 0 ∷ 0 ∷ []))
 
--- gate i of a list: at the front where `ends` has true, with the mask of that index
-abbrev pub gate_at : List Bool → List ℕ → ℕ → List ℕ
-gate_at ends masks i = gate (end_byte (get_or ends i false)) (get_or masks i 0)
+-- .. by its end and its mask as a gate has them
+abbrev pub gate_of : Gate → List ℕ
+gate_of g = gate (end_byte g.front) g.mask
 
--- .. the first n
-abbrev pub gates_of : ℕ → List Bool → List ℕ → List (List ℕ)
-gates_of n ends masks = map (gate_at ends masks) (up_to n)
+-- .. of each gate of a list
+abbrev pub gates_of : List Gate → List (List ℕ)
+gates_of l = map gate_of l
 
 -- ---- read again
 

@@ -9,3 +9,10 @@ mod gates;
 pub use fields::{gate_record, put_gate, put_part, put_u16};
 use file::Refusal;
 pub use gates::write_gates;
+
+// An ordinary record on the qubits of a mask, at the front or the back.
+#[derive(Clone, Copy, Debug, PartialEq, Eq)]
+pub struct Gate {
+    pub front: bool,
+    pub mask: u64,
+}

@@ -1,6 +1,7 @@
-use Rattle.writing.specs.Writing.{bytes_of, gate}
+use mathlib.Core.Path.{◌∙◌}
+use Rattle.writing.proofs.WriterLaws.{gate_bytes, mask_bytes}
 use Rattle.writing.proofs.fields.gate_record.Goals as goal
 
 pub returns : goal.returns
-unfolding gate bytes_of
-returns c = cc
+returns c =
+    gate_bytes c.args.gate _ _ c.from.ensures (c.copy_from_slice.ensures.after ∙ c.to_le_bytes.ensures ∙ mask_bytes _)
