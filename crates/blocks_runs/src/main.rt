@@ -2,34 +2,21 @@
 // file follows a line with its length.
 #![tactic(auto)]
 
+use standard_io::Files;
 use std::io;
 
 // The text for one file, behind a line with its length.
 fn print_file(rt: &impl Print, file: &[u8]) -> io::Result<()> {
     println!(rt; "file of {} bytes", file.len())?;
     let text = report::blocks_text(file);
-    let bytes = text.bytes;
-    let length = text.length;
-    rt.write_all(&bytes[..length])
-}
-
-// The number in two bytes.
-fn pair(low: u8, high: u8) -> usize {
-    low as usize + 256 * (high as usize)
+    rt.write_all(text.as_bytes())
 }
 
 fn main(rt: HostRuntime) -> io::Result<()> {
     let mut input = [0; 65536];
     let n = standard_io::read_file(&rt, &mut input);
-    let mut at: usize = 0;
-    while at + 2 <= n {
-        let start = at + 2;
-        let size = pair(input[at], input[at + 1]);
-        if n - start < size {
-            return Ok(());
-        }
-        print_file(&rt, &input[start..start + size])?;
-        at = start + size;
+    for file in Files(&input[..n]) {
+        print_file(&rt, file)?;
     }
     Ok(())
 }

@@ -1,5 +1,5 @@
 -- The programs `blocks` and `blocks_both_ends`: the bytes that they print for a file. Assumes nothing.
-use Rattle.std.specs.Prelude.{cond, List, [], ◌∷◌, ◌++◌, ℕ, zero, suc, ◌+◌, ◌/◌, ◌%◌, ltb, length, replicate, Option, Ok, Err, Some, None}
+use Rattle.std.specs.Prelude.{cond, List, [], ◌∷◌, ◌++◌, ℕ, zero, suc, ◌+◌, ◌/◌, ◌%◌, ltb, length, take, replicate, Option, Ok, Err, Some, None}
 use Rattle.file.specs.Lists.{onto}
 use Rattle.file.specs.declared.Refusal.{Refusal}
 use Rattle.file.specs.Refusals.{number_of, value_of}
@@ -66,3 +66,7 @@ file_text s = file_text_by NearAll s
 -- a text at the start of an array of 5,120 bytes, zeros behind it
 abbrev pub text_of : List ℕ → Text
 text_of t = record { length = length t; bytes = onto t (replicate 5120 0) }
+
+-- the bytes that a program prints of it
+abbrev pub printed : Text → List ℕ
+printed x = take x.length x.bytes

@@ -1,1 +1,3 @@
 pub mod Printing
+pub mod Files
+pub mod Entries

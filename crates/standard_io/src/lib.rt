@@ -1,9 +1,15 @@
-// Standard input, and the programs `blocks` and `blocks_both_ends` as one function, so that every program that is run on an input runs this one.
+// Standard input, of one file or several, and the programs `blocks` and `blocks_both_ends` as one function, so that every
+// program that is run on an input runs this one.
 #![tactic(auto)]
 
 ghost use Rattle.std.specs.Prelude.{◌≤◌};
 ghost use Rattle.standard_io.specs.Printing.{Printed, PrintedBy};
 
+mod entries;
+mod files;
+
+pub use entries::{Answer, Entries};
+pub use files::Files;
 use links::LoadingRule;
 use report::Text;
 use std::io::Read;
@@ -32,9 +38,7 @@ pub fn print_blocks_by(rt: &(impl Input + Print), rule: LoadingRule) -> Text
     let mut file = [0; 65536];
     let n = read_file(rt, &mut file);
     let text = report::blocks_text_by(rule, &file[..n]);
-    let bytes = text.bytes;
-    let length = text.length;
-    let _ = rt.write_all(&bytes[..length]);
+    let _ = rt.write_all(text.as_bytes());
     text
 }
 

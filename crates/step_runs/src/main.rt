@@ -7,144 +7,73 @@
 
 use file::{Refusal, RegisterKey};
 use graph::{CircuitDag, NodeIndex, Qubit};
+use standard_io::{Entries, Files};
 use std::io;
 use walk::ParallelBlocks;
 
-fn print(rt: &impl Print, text: &[u8]) -> io::Result<()> {
-    rt.write_all(text)
-}
-
-fn print_number(rt: &impl Print, n: usize) -> io::Result<()> {
-    print!(rt; " {n}")
-}
-
-fn print_refusal(rt: &impl Print, r: Refusal) -> io::Result<()> {
-    print(rt, b" refused")?;
-    print_number(rt, file::refusal_number(r) as usize)?;
-    let value = file::refusal_value(r);
-    match value {
-        None => {}
-        Some(i) => {
-            print(rt, b" at")?;
-            print_number(rt, i)?;
-        }
-    }
-    Ok(())
-}
-
-// The first nine entries of a buffer, as many as the longest list has, and the end of the line.
-fn print_buffer(rt: &impl Print, buffer: &[u16]) -> io::Result<()> {
-    print(rt, b" |")?;
-    for i in 0..9 {
-        if buffer.len() <= i {
-            break;
-        }
-        print_number(rt, file::to_index(buffer[i]))?;
-    }
-    print(rt, b"\n")
-}
-
-// A buffer before a call.
-fn fill(buffer: &mut [u16]) {
-    let n = buffer.len();
-    for i in 0..n {
-        buffer[i] = 9999;
-    }
-}
-
-// A place, with its sign.
-fn print_place(rt: &impl Print, place: i16) -> io::Result<()> {
-    if place < 0 {
-        print(rt, b" -")?;
-        let k = (!place) as usize;
-        if k < 512 {
-            print!(rt; "{}", k + 1)?;
-        }
-        return Ok(());
-    }
-    print_number(rt, place as usize)
-}
-
 // What a node keeps.
 fn probe_get(rt: &impl Print, g: CircuitDag, v: u16) -> io::Result<()> {
-    print(rt, b"get")?;
-    print_number(rt, file::to_index(v))?;
-    print(rt, b":")?;
-    let got = accessors::get(g, NodeIndex(v));
-    match got {
-        Ok(n) => {
-            print_number(rt, n.kind as usize)?;
-            print_number(rt, n.form as usize)?;
-            print_number(rt, file::to_index(n.label))?;
-            print_place(rt, n.place)?;
-        }
-        Err(r) => print_refusal(rt, r)?,
+    match accessors::get(g, NodeIndex(v)) {
+        Ok(n) => println!(rt; "get {v}: {} {} {} {}", n.kind, n.form, n.label, n.place),
+        Err(r) => println!(rt; "get {v}: {r}"),
     }
-    print(rt, b"\n")
 }
 
 fn print_operation(rt: &impl Print, x: Result<Option<NodeIndex>, Refusal>) -> io::Result<()> {
     match x {
-        Ok(Some(v)) => print_number(rt, file::to_index(v.0))?,
-        Ok(None) => print(rt, b" none")?,
-        Err(r) => print_refusal(rt, r)?,
+        Ok(Some(v)) => print!(rt; " {}", v.0),
+        Ok(None) => print!(rt; " none"),
+        Err(r) => print!(rt; " {r}"),
+    }
+}
+
+// The first and the last operation that involve a qubit or a register key, and the end of the line.
+fn print_operations(
+    rt: &impl Print,
+    first: Result<Option<NodeIndex>, Refusal>,
+    last: Result<Option<NodeIndex>, Refusal>,
+) -> io::Result<()> {
+    print_operation(rt, first)?;
+    print_operation(rt, last)?;
+    println!(rt)
+}
+
+fn probe_qubit(rt: &impl Print, g: CircuitDag, q: u8) -> io::Result<()> {
+    print!(rt; "qubit {q}:")?;
+    print_operations(
+        rt,
+        accessors::first_operation_involving_qubit(g, Qubit(q)),
+        accessors::last_operation_involving_qubit(g, Qubit(q)),
+    )
+}
+
+fn probe_key(rt: &impl Print, g: CircuitDag, name: u8, index: u16) -> io::Result<()> {
+    let key = RegisterKey { name, index };
+    print!(rt; "key {name} {index}:")?;
+    print_operations(
+        rt,
+        accessors::first_operation_involving_classical(g, key),
+        accessors::last_operation_involving_classical(g, key),
+    )
+}
+
+// What a graph holds at single places; v is the number after the last node.
+fn probe_entries(rt: &impl Print, g: CircuitDag, v: u16) -> io::Result<()> {
+    for node in [0, 2, v, 65535] {
+        probe_get(rt, g, node)?;
+    }
+    for q in [0, 3, 63, 64, 255] {
+        probe_qubit(rt, g, q)?;
+    }
+    for (name, index) in [(1, 0), (1, 1), (2, 0), (255, 65535)] {
+        probe_key(rt, g, name, index)?;
     }
     Ok(())
 }
 
-// The first and last operation that involve a qubit.
-fn probe_qubit(rt: &impl Print, g: CircuitDag, q: u8) -> io::Result<()> {
-    print(rt, b"qubit")?;
-    print_number(rt, q as usize)?;
-    print(rt, b":")?;
-    print_operation(rt, accessors::first_operation_involving_qubit(g, Qubit(q)))?;
-    print_operation(rt, accessors::last_operation_involving_qubit(g, Qubit(q)))?;
-    print(rt, b"\n")
-}
-
-// The first and last operation that involve a register key.
-fn probe_key(rt: &impl Print, g: CircuitDag, name: u8, index: u16) -> io::Result<()> {
-    print(rt, b"key")?;
-    print_number(rt, name as usize)?;
-    print_number(rt, file::to_index(index))?;
-    print(rt, b":")?;
-    print_operation(
-        rt,
-        accessors::first_operation_involving_classical(g, RegisterKey { name, index }),
-    )?;
-    print_operation(
-        rt,
-        accessors::last_operation_involving_classical(g, RegisterKey { name, index }),
-    )?;
-    print(rt, b"\n")
-}
-
-// What a graph holds at single places.
-fn probe_entries(rt: &impl Print, g: CircuitDag, v: usize) -> io::Result<()> {
-    probe_get(rt, g, 0)?;
-    probe_get(rt, g, 2)?;
-    probe_get(rt, g, (v % 65536) as u16)?;
-    probe_get(rt, g, 65535)?;
-    probe_qubit(rt, g, 0)?;
-    probe_qubit(rt, g, 3)?;
-    probe_qubit(rt, g, 63)?;
-    probe_qubit(rt, g, 64)?;
-    probe_qubit(rt, g, 255)?;
-    probe_key(rt, g, 1, 0)?;
-    probe_key(rt, g, 1, 1)?;
-    probe_key(rt, g, 2, 0)?;
-    probe_key(rt, g, 255, 65535)
-}
-
 // How many nodes a set has.
-fn count_marks(marks: [bool; 512]) -> usize {
-    let mut k: usize = 0;
-    for v in 0..512 {
-        if marks[v] {
-            k = if k < 512 { k + 1 } else { k };
-        }
-    }
-    k
+fn count_marks(marks: &[bool; 512]) -> usize {
+    marks.iter().filter(|mark| **mark).count()
 }
 
 // A step: its answer, the sizes of its two sets afterwards, and the buffer.
@@ -155,21 +84,17 @@ fn probe_step(
     buffer: &mut [u16],
 ) -> io::Result<ParallelBlocks> {
     let mut walk = state;
-    fill(&mut *buffer);
+    buffer.fill(9999);
     let answer = walk.next(g, &mut *buffer);
-    print(rt, b"next buffer")?;
-    print_number(rt, buffer.len())?;
-    print(rt, b":")?;
+    print!(rt; "next buffer {}:", buffer.len())?;
     match answer {
-        Ok(Some(k)) => print_number(rt, k)?,
-        Ok(None) => print(rt, b" none")?,
-        Err(r) => print_refusal(rt, r)?,
+        Ok(Some(k)) => print!(rt; " {k}")?,
+        Ok(None) => print!(rt; " none")?,
+        Err(r) => print!(rt; " {r}")?,
     }
-    let current = walk.current;
-    let executed = walk.executed;
-    print_number(rt, count_marks(current))?;
-    print_number(rt, count_marks(executed))?;
-    print_buffer(rt, &*buffer)?;
+    let current = count_marks(&walk.current);
+    let executed = count_marks(&walk.executed);
+    println!(rt; " {current} {executed}{}", Entries(buffer))?;
     Ok(walk)
 }
 
@@ -180,85 +105,69 @@ fn probe_steps(
     state: ParallelBlocks,
     buffer: &mut [u16],
 ) -> io::Result<ParallelBlocks> {
-    let mut none = [0u16; 0];
-    let after = probe_step(rt, g, state, &mut none)?;
+    let after = probe_step(rt, g, state, &mut [0; 0])?;
     probe_step(rt, g, after, buffer)
 }
 
 // The walk's first five steps.
 fn probe_walk(rt: &impl Print, g: CircuitDag, buffer: &mut [u16]) -> io::Result<()> {
-    let a = probe_steps(rt, g, ParallelBlocks::new(), &mut *buffer)?;
-    let b = probe_steps(rt, g, a, &mut *buffer)?;
-    let c = probe_steps(rt, g, b, &mut *buffer)?;
-    let d = probe_steps(rt, g, c, &mut *buffer)?;
-    probe_steps(rt, g, d, &mut *buffer)?;
+    let mut walk = ParallelBlocks::new();
+    for _ in 0..5 {
+        walk = probe_steps(rt, g, walk, &mut *buffer)?;
+    }
     Ok(())
 }
 
 // A step from a state whose current set has node v alone, which may be absent.
-fn probe_current(rt: &impl Print, g: CircuitDag, v: usize, buffer: &mut [u16]) -> io::Result<()> {
-    if v < 512 {
-        let mut current = graph::no_marks();
-        current[v] = true;
+fn probe_current(rt: &impl Print, g: CircuitDag, v: u16, buffer: &mut [u16]) -> io::Result<()> {
+    let mut current = graph::no_marks();
+    if let Some(mark) = current.get_mut(usize::from(v)) {
+        *mark = true;
         let executed = graph::no_marks();
-        let state = ParallelBlocks { current, executed };
-        probe_step(rt, g, state, buffer)?;
+        probe_step(rt, g, ParallelBlocks { current, executed }, buffer)?;
     }
     Ok(())
 }
 
 // The walk and the entries of one graph; v is the number after the last node.
-fn probe(rt: &impl Print, g: CircuitDag, v: usize) -> io::Result<()> {
-    let mut long = [0u16; 512];
+fn probe(rt: &impl Print, g: CircuitDag, v: u16) -> io::Result<()> {
+    let mut long = [0; 512];
     probe_walk(rt, g, &mut long)?;
     probe_current(rt, g, 0, &mut long)?;
     probe_current(rt, g, v, &mut long)?;
     probe_entries(rt, g, v)
 }
 
+// A count of nodes as a node number, or the absent node where it is none; a graph's count is at most 512.
+fn node_number(count: usize) -> u16 {
+    u16::try_from(count).unwrap_or(65535)
+}
+
 // The graph of a circuit file, the empty one where it is refused, then the same with one back insertion too many, which is
 // not sound.
 fn probe_load(rt: &impl Print, bytes: &[u8]) -> io::Result<()> {
     let loaded = insertion::load(bytes);
-    let answer = loaded.answer;
-    let g = loaded.graph;
-    if let Err(r) = answer {
-        print(rt, b"load")?;
-        print_refusal(rt, r)?;
-        print(rt, b"\n")?;
+    let mut g = loaded.graph;
+    if let Err(r) = loaded.answer {
+        println!(rt; "load {r}")?;
     }
-    probe(rt, g, g.nodes.count)?;
-    let mut unsound = g;
-    unsound.backs = if g.backs < 512 { g.backs + 1 } else { 0 };
-    print(rt, b"not sound\n")?;
-    probe(rt, unsound, 0)
+    probe(rt, g, node_number(g.nodes.count))?;
+    g.backs = if g.backs < 512 { g.backs + 1 } else { 0 };
+    println!(rt; "not sound")?;
+    probe(rt, g, 0)
 }
 
 // A circuit file: its graph.
 fn probe_file(rt: &impl Print, bytes: &[u8]) -> io::Result<()> {
-    print(rt, b"file of")?;
-    print_number(rt, bytes.len())?;
-    print(rt, b" bytes\n")?;
+    println!(rt; "file of {} bytes", bytes.len())?;
     probe_load(rt, bytes)
-}
-
-// The number in two bytes.
-fn pair(low: u8, high: u8) -> usize {
-    low as usize + 256 * (high as usize)
 }
 
 fn main(rt: HostRuntime) -> io::Result<()> {
     let mut input = [0; 65536];
     let n = standard_io::read_file(&rt, &mut input);
-    let mut at: usize = 0;
-    while at + 2 <= n {
-        let start = at + 2;
-        let size = pair(input[at], input[at + 1]);
-        if n - start < size {
-            return Ok(());
-        }
-        probe_file(&rt, &input[start..start + size])?;
-        at = start + size;
+    for file in Files(&input[..n]) {
+        probe_file(&rt, file)?;
     }
     Ok(())
 }
