@@ -23,7 +23,7 @@ use Rattle.links.specs.declared.LoadingRule.{LoadingRule}
 use Rattle.links.specs.declared.LoadingRule.TheVariants.{NearAll, FarAll}
 use Rattle.links.specs.Links.{link_qubits, link_set, mapped, link_all, link_by}
 use Rattle.links.specs.Links.{link_at, rule_of, qubits_from, edge_bound}
-use Rattle.links.proofs.QubitLaws.{all_more, all_first, all_rest, qubits_ascend}
+use Rattle.links.proofs.QubitLaws.{few_qubits, all_more, all_first, all_rest, qubits_ascend}
 
 -- ---- tests and lists
 
@@ -214,23 +214,13 @@ others_bound None rule v near far h = omega arith
 others_bound All rule v near far h = omega (arith, all_bound v near far, h)
 others_bound (Set m) rule v near far h = set_bound rule m v near far
 
--- a mask has at most 64 qubits
-qubits_few : (k q m : ℕ) → length (qubits_from k q m) ≤ k
-unfolding qubits_from
-qubits_few zero q m = omega arith
-qubits_few (suc k) q m = go (eqb (m % 2) 1) (qubits_few k (q + 1) (m / 2))
-  where
-    go : (b : Bool) → length (qubits_from k (q + 1) (m / 2)) ≤ k → length (cons_if b q (qubits_from k (q + 1) (m / 2))) ≤ suc k
-    go true h = omega arith
-    go false h = omega arith
-
 pub surely_fits : (n k b : ℕ) → k ≤ b → n + b ≤ 2048 → false ≡ ltb 2048 (n + k)
 surely_fits n k b h f = sym (le-ltb 2048 (n + k) (omega arith))
 
 pub bound_few : (q : InvolvedQubits) → edge_bound q ≤ 64
 bound_few None = omega arith
 bound_few All = omega arith
-bound_few (Set m) = qubits_few 64 0 m
+bound_few (Set m) = few_qubits 64 0 m
 
 -- "the edge stands once, however often added"
 pub others_distinct : (q : InvolvedQubits) (rule : FarRule) (v : ℕ) (near far : End) → distinct eqb (link_by q rule v near far).others ≡ true

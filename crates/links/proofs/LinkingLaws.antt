@@ -1,14 +1,15 @@
 -- The ends and edges of records, one after the other, and of one record: what the functions of module records leave is the rule's. Assumes nothing.
 use Rattle.std.proofs.Common.{◌≡◌, refl, sym, ap, subst, ◌∙◌, Bool, true, false, cond, List, [], ◌∷◌, map, ℕ, ◌+◌, ◌≤◌, ◌<◌, ltb, leb, length, get_or}
 use Rattle.std.proofs.Common.{drop, arith, add-one, drop-cons}
-use lib.ListN.{length-map, drop_of_length-le}
-use borrow.Author.Tests.{lt-ltb, le-ltb, lt-leb, le-leb, ltb-true, ltb-false, leb-true, leb-false}
+use lib.ListN.{drop_of_length-le}
+use borrow.Author.Tests.{lt-ltb, le-ltb, lt-leb, le-leb, ltb-true, leb-true, leb-false}
 use Rattle.file.specs.Lists.{all_of}
 use Rattle.file.specs.Pairs.{pair_place, record_at}
 use Rattle.file.specs.Records.{parse_record, parse_at, refusal_from}
 use Rattle.file.proofs.RecordLaws
 use Rattle.file.proofs.RecordLaws.{taken}
 use Rattle.file.specs.declared.InvolvedQubits.{InvolvedQubits}
+use Rattle.file.specs.declared.InvolvedQubits.TheVariants.{None, All, Set}
 use Rattle.file.specs.declared.Record.{Record}
 use Rattle.file.specs.declared.Refusal.{Refusal}
 use Rattle.file.specs.declared.Refusal.TheVariants.{TooManyNodes, TooManyEdges, Unsound}
@@ -23,8 +24,7 @@ use Rattle.links.specs.declared.LinkedRecords.{LinkedRecords}
 use Rattle.links.specs.Links.{Linked, FarRule, link, link_at, edge_bound}
 use Rattle.links.specs.Ends.{EndFits, JoinedEnds}
 use Rattle.links.specs.Linking.{links_from, no_links, links_stopped, link_record, link_records, links_fit, links_kept, link_node}
-use Rattle.links.proofs.LinkLaws.{others_bound, NamesAll}
-use Rattle.links.proofs.JoinLaws.{fits_by, fits_none}
+use Rattle.links.proofs.LinkLaws.{set_bound}
 use Rattle.std.specs.Prelude.{Result, Ok, Err, ⊤}
 
 -- ---- one record as node k: 5, 6, or the ends and edges with it
@@ -39,12 +39,13 @@ module _ (rule : FarRule) (i : ℕ) (f : Bool) (q : InvolvedQubits) (k : ℕ) (e
 
   module _ (small : k < 512) (first' last' : End) (others : List ℕ) (j : JoinedEnds f x first' last' others) where
     -- "their count bounds the edges added"
-    pub bounded : length first.node ≡ 64 → length last.node ≡ 64 → length others ≤ edge_bound q
-    bounded a b = rw j.others_are (by_end f)
+    pub bounded : length others ≤ 64 → length others ≤ edge_bound q
+    bounded few = rw j.others_are (by_qubits q (rw j.others_are at few))
       where
-        by_end : (f : Bool) → length (link_at rule f q k first last).others ≤ edge_bound q
-        by_end true = others_bound q rule k first last a
-        by_end false = others_bound q rule k last first b
+        by_qubits : (q : InvolvedQubits) → length (link_at rule f q k first last).others ≤ 64 → length (link_at rule f q k first last).others ≤ edge_bound q
+        by_qubits None h = omega arith
+        by_qubits All h = h
+        by_qubits (Set m) h = set_bound rule m k (cond f first last) (cond f last first)
 
     pub edges_full : 2048 < es.count + length others → links_stopped k (TooManyEdges i) ≡ link_record rule i f q (links_from k es first last)
     unfolding link_record
@@ -55,61 +56,30 @@ module _ (rule : FarRule) (i : ℕ) (f : Bool) (q : InvolvedQubits) (k : ℕ) (e
     unfolding link_record
     grows h es' e = rw (lt-leb 512 k small, le-ltb 2048 (es.count + length x.others) (rw j.others_are at h), e, j.first_is, j.last_is, j.others_are) refl
 
--- ---- the ends and edges of a graph
-
--- no more edges than a graph may have, and the ends name its nodes
-pub record Fits (x : LinkedRecords) : Type 0 where
-  pub room : x.edges.count ≤ 2048
-  pub first_fits : EndFits x.accepted x.first
-  pub last_fits : EndFits x.accepted x.last
-
-pub fits_empty : (k : ℕ) (a : Result ⊤ Refusal) → Fits (record { accepted = k; answer = a; edges = empty.edges; first = empty.first; last = empty.last })
-unfolding empty
-fits_empty k a = record { room = omega arith; first_fits = fits_none k; last_fits = fits_none k }
-
--- a record leaves such ends and edges
-pub record_fits : (rule : FarRule) → NamesAll rule → (i : ℕ) (f : Bool) (q : InvolvedQubits) (x : LinkedRecords) → Fits x → Fits (link_record rule i f q x)
-unfolding link_record
-record_fits rule names i f q x h = by (leb 512 x.accepted) (ltb 2048 (x.edges.count + length y.others)) refl
-  where
-    y : Linked
-    y = link_at rule f q x.accepted x.first x.last
-
-    ends : (f : Bool) → let y = link_at rule f q x.accepted x.first x.last in
-        EndFits (x.accepted + 1) (cond f y.near y.far) × EndFits (x.accepted + 1) (cond f y.far y.near)
-    ends true = fits_by q rule names x.accepted x.first x.last h.first_fits h.last_fits
-    ends false = let r = fits_by q rule names x.accepted x.last x.first h.last_fits h.first_fits in (r.1, r.0)
-
-    by : (a b : Bool) → ltb 2048 (x.edges.count + length y.others) ≡ b → Fits (cond a (links_stopped x.accepted TooManyNodes) (cond b (links_stopped x.accepted (TooManyEdges i))
-        (links_from (x.accepted + 1) (with_edges x.edges (map (link f x.accepted) y.others)) (cond f y.near y.far) (cond f y.far y.near))))
-    by true b e = fits_empty x.accepted (Err TooManyNodes)
-    by false true e = fits_empty x.accepted (Err (TooManyEdges i))
-    by false false e = record {
-      room = rw length-map (ltb-false 2048 (x.edges.count + length y.others) e);
-      first_fits = (ends f).0;
-      last_fits = (ends f).1;
-    }
-
 -- ---- `link_node`
 
+-- no more edges than a graph may have, and ends that name its nodes
+pub record Fits (es : Edges) (first last : End) : Type 0 where
+  pub room : es.count ≤ 2048
+  pub first_fits : EndFits 512 first
+  pub last_fits : EndFits 512 last
+
 -- an end that names only nodes below n
-end_fits : (n : ℕ) (e : End) → length e.node ≡ 64 → all_of (if_present (λ u. ltb u n)) (named e) ≡ true → EndFits n e
-end_fits n e z h = record {
-  nodes = z;
-  entries = λ q t. ltb-true (at_qubit e q) n (named-node (λ u. ltb u n) e h q t);
-  all = λ t. ltb-true e.all.0 n (named_all (λ u. ltb u n) e h t);
+end_fits : (n : ℕ) (e : End) → n < 512 → all_of (if_present (λ u. ltb u n)) (named e) ≡ true → EndFits 512 e
+end_fits n e small h = record {
+  entries = λ q t. let r = ltb-true (at_qubit e q) n (named-node (λ u. ltb u n) e h q t) in omega (arith, r);
+  all = λ t. let r = ltb-true e.all.0 n (named_all (λ u. ltb u n) e h t) in omega (arith, r);
 }
 
--- the ends and edges of a graph with v nodes
-pub fit_told : (v : ℕ) (es : Edges) (first last : End) → length first.node ≡ 64 → length last.node ≡ 64 → links_fit v es first last ≡ true
-    → Fits (links_from v es first last)
-fit_told v es first last a b h =
+-- the ends and edges of a graph with v nodes, which has room for one more
+pub fit_told : (v : ℕ) (es : Edges) (first last : End) → v < 512 → links_fit v es first last ≡ true → Fits es first last
+fit_told v es first last small h =
     let r = and_r (leb es.count 2048) _ h in
     let p = all_of (if_present (λ u. ltb u v)) (named first) in
     record {
       room = leb-true es.count 2048 (and_l (leb es.count 2048) _ h);
-      first_fits = end_fits v first a (and_l p _ r);
-      last_fits = end_fits v last b (and_r p _ r);
+      first_fits = end_fits v first small (and_l p _ r);
+      last_fits = end_fits v last small (and_r p _ r);
     }
 
 -- what follows an answer that accepts
@@ -123,6 +93,10 @@ module _ (rule : FarRule) (i : ℕ) (f : Bool) (q : InvolvedQubits) (v : NodeInd
   unfit_node h = rw (rw is at h) refl
 
   module _ (fit : links_fit n es first last ≡ true) where
+    pub node_full : 512 ≤ n → links_kept v es first last TooManyNodes ≡ link_node rule i f q v es first last
+    unfolding link_node
+    node_full h = rw (rw is at fit, ← nodes_full rule i f q v.0 es first last (rw is at h)) refl
+
     pub node_taken : (es' : Edges) (first' last' : End) → links_from (n + 1) es' first' last' ≡ link_record rule i f q (links_from n es first last)
         → links_from (n + 1) es' first' last' ≡ link_node rule i f q v es first last
     unfolding link_node
@@ -154,12 +128,11 @@ onward rule file l y = elim y.answer [ Ok _ ↦ link_records rule file y l | Err
 
 -- before the k-th record of an order
 pub record SoFar (rule : FarRule) (file order : List ℕ) (k : ℕ) (es : Edges) (first last : End) : Type 0 where
-  pub fits : Fits (links_from k es first last)
   pub same : link_records rule file (links_from k es first last) (drop k order) ≡ link_records rule file no_links order
 
 module _ (rule : FarRule) (file order : List ℕ) where
   pub begin : SoFar rule file order 0 empty.edges empty.first empty.last
-  begin = record { fits = fits_empty 0 (Ok tt); same = refl }
+  begin = record { same = refl }
 
   module _ (k : ℕ) (es : Edges) (first last : End) (l : SoFar rule file order k es first last) where
     pub finish : k ≡ length order → links_from (length order) es first last ≡ link_records rule file no_links order
@@ -185,13 +158,9 @@ module _ (rule : FarRule) (file order : List ℕ) where
             → links_stopped k c ≡ link_records rule file no_links order
         stopped c y = goes (links_stopped k c) y
 
-        pub again : NamesAll rule → (es' : Edges) (first' last' : End) → links_from (k + 1) es' first' last' ≡ link_record rule i r.front r.qubits (links_from k es first last)
+        pub again : (es' : Edges) (first' last' : End) → links_from (k + 1) es' first' last' ≡ link_record rule i r.front r.qubits (links_from k es first last)
             → SoFar rule file order (k + 1) es' first' last'
-        again names es' first' last' y =
-            record {
-              fits = rw y (record_fits rule names i r.front r.qubits (links_from k es first last) l.fits);
-              same = goes (links_from (k + 1) es' first' last') y;
-            }
+        again es' first' last' y = record { same = goes (links_from (k + 1) es' first' last') y }
 
 -- ---- how many nodes a list of records makes
 

@@ -1,31 +1,12 @@
 -- The nodes that a record's node is joined with. Assumes nothing.
-use Rattle.std.proofs.Common.{◌≡◌, refl, sym, inl, inr, true, false, cond, List, [], ◌∷◌, ◌++◌, map, ℕ, suc, ◌+◌, ◌≤◌, ◌<◌, length, get_or, set, take}
-use Rattle.std.proofs.Common.{drop, nat_eq, arith, add-one, drop-cons, length-set}
+use Rattle.std.proofs.Common.{◌≡◌, refl, sym, true, false, cond, List, [], ◌∷◌, ◌++◌, map, ℕ, suc, ◌+◌, ◌≤◌, ◌<◌, length, get_or, set, take}
+use Rattle.std.proofs.Common.{drop, arith, add-one, drop-cons, length-set}
 use Rattle.std.proofs.lemmas.List.{map-append}
-use Rattle.std.specs.List.{list_any}
 use lib.Seq.{take-suc, take-suc-set, drop-set-lt}
-use borrow.Author.Tests.{eqb-true, eqb-false, eq-eqb, ne_eqb}
-use Rattle.file.specs.Lists.{any_of, member}
-use Rattle.file.proofs.BoolLaws.{bool_cases}
+use borrow.Author.Tests.{eq-eqb, ne_eqb}
 use Rattle.graph.specs.Dag.{absent, present}
-use Rattle.graph.proofs.ListLaws.{any_here, any-later}
 use Rattle.links.specs.Links.{mapped}
 use Rattle.links.proofs.LinkLaws.{add_present, add-length}
-
-eqb-turns : (x y : ℕ) → nat_eq x y ≡ nat_eq y x
-eqb-turns x y = elim (bool_cases (nat_eq x y)) [
-  | inl t ↦ rw t (sym (eq-eqb y x (sym (eqb-true x y t))))
-  | inr f ↦ rw f (sym (ne_eqb y x (λ e. eqb-false x y f (sym e))))
-]
-
--- std's search of a slice
-pub listed : (s : ℕ) (l : List ℕ) → list_any (λ y. nat_eq y s) l ≡ member s l
-unfolding any_of
-listed s [] = refl
-listed s (y ∷ l) = elim (bool_cases (nat_eq s y)) [
-  | inl t ↦ rw (any_here (nat_eq s) y l t, eqb-turns y s, t) refl
-  | inr f ↦ rw (any-later (nat_eq s) y l f, eqb-turns y s, f) (listed s l)
-]
 
 -- ---- the number 65535
 

@@ -1,5 +1,5 @@
 -- The qubits of a mask, taken from the lowest up: the next one is the count of trailing zeros, and `m & (m - 1)` is the mask
--- without it; they ascend, lie below 64 and are as many as the mask has ones. Assumes nothing.
+-- without it; they ascend and are as many as the mask has ones. Assumes nothing.
 use mathlib.Core.Path.{◌≡◌, refl, sym, ap, ◌∙◌}
 use mathlib.Core.Bool.{Bool, true, false}
 use mathlib.Core.List.{List, [], ◌∷◌}
@@ -10,8 +10,8 @@ use native.Mathlib.Numerals.{one-add}
 use native.Mathlib.Omega.{arith}
 use lib.Dec.{ltb}
 use lib.ListN.{length}
-use lib.Bits.{bit_and, and_step, and_self, and_le_r}
-use lib.Count.{count_trailing_zeros, count_leading_zeros, leading_length, ones, ones_step}
+use lib.Bits.{bit_and, and_step, and_self}
+use lib.Count.{count_trailing_zeros, ones, ones_step}
 use borrow.Author.Tests.{lt-ltb}
 use Rattle.file.specs.Lists.{all_of}
 use Rattle.graph.specs.Soundness.{ascends}
@@ -80,21 +80,6 @@ unfolding qubits_from
 qubits-none zero q = refl
 qubits-none (suc k) q = qubits-none k (q + 1)
 
--- clearing a bit
-pub fewer : (m : ℕ) → 0 < m → bit_and m (m - 1) < m
-fewer m p = omega (arith, and_le_r m (m - 1))
-
--- the next qubit is one of the k
-pub next-below : (k m : ℕ) → 0 < m → m < 2 ^ k → count_trailing_zeros k m < k
-unfolding count_trailing_zeros
-next-below zero m p h = absurd (omega arith)
-next-below (suc k) m p h =
-    let bound : m < 2 ^ k * 2 = rw pow-suc at h in
-    ⊎_elim
-    (λ (o : m % 2 ≡ 0). let r = next-below k (m / 2) (omega arith) (omega arith) in rw o (omega arith))
-    (λ (o : m % 2 ≡ 1). rw o (omega arith))
-    (parity m)
-
 -- "their count bounds the edges added": there are as many qubits as `count_ones` says
 pub count-qubits : (k q m : ℕ) → m < 2 ^ k → length (qubits_from k q m) ≡ ones m
 unfolding qubits_from ones
@@ -137,32 +122,6 @@ module _ {A : Type 0} (p : A → Bool) (x : A) (l : List A) where
   pub all_rest : all_of p (x ∷ l) ≡ true → all_of p l ≡ true
   unfolding all_of
   all_rest h = let e = all_first h in rw (all_of, e) at h
-
--- the qubits of a number below 2 ^ t lie below t
-pub qubits-below : (k q m t : ℕ) → m < 2 ^ t → all_of (λ j. ltb j (q + t)) (qubits_from k q m) ≡ true
-unfolding qubits_from all_of
-qubits-below zero q m t h = refl
-qubits-below (suc k) q m zero h = let z : m ≡ 0 = omega arith in rw (z, qubits-none (suc k) q) refl
-qubits-below (suc k) q m (suc t) h =
-    let bound : m < 2 ^ t * 2 = rw pow-suc at h in
-    let half : m / 2 < 2 ^ t = omega arith in
-    let s : q + 1 + t ≡ q + suc t = omega arith in
-    let rest : all_of (λ j. ltb j (q + suc t)) (qubits_from k (q + 1) (m / 2)) ≡ true = rw s at (qubits-below k (q + 1) (m / 2) t half) in
-    ⊎_elim
-    (λ (o : m % 2 ≡ 0). rw (from_even k q m o) rest)
-    (λ (o : m % 2 ≡ 1). rw (from_odd k q m o) (all_more (λ j. ltb j (q + suc t)) q (qubits_from k (q + 1) (m / 2)) (lt-ltb q (q + suc t) (omega arith)) rest))
-    (parity m)
-
--- "bit q for qubit q (0 to 63)"
-pub qubits_64 : (m : ℕ) → m < 2 ^ 64 → all_of (λ j. ltb j 64) (qubits m) ≡ true
-qubits_64 m h = rw zero-add at (qubits-below 64 0 m 64 h)
-
--- a number has no digit from its leading zeros on
-pub leading_below : (k m : ℕ) → m < 2 ^ k → m < 2 ^ (k - count_leading_zeros k m)
-leading_below k m h =
-    let r = leading_length k m h in
-    let e : k - count_leading_zeros k m ≡ r.0 = omega (arith, r.1) in
-    rw e r.2
 
 -- ---- "Qubits are taken from the lowest up": they ascend
 

@@ -1,11 +1,12 @@
 -- What private functions promise: an end as insertions hold it, and what the rules of Links leave of it. Assumes nothing.
-use Rattle.std.specs.Prelude.{◌≡◌, Bool, true, false, cond, List, ℕ, ◌≤◌, ◌<◌, length, get_or, set, replicate}
+use Rattle.std.specs.Prelude.{◌≡◌, Bool, true, false, cond, List, ℕ, ◌≤◌, ◌<◌, get_or, set, replicate}
 use Rattle.file.specs.Lists.{any_of}
 use Rattle.graph.specs.declared.NodeIndex.{NodeIndex}
 use Rattle.graph.specs.declared.Qubit.{Qubit}
 use Rattle.graph.specs.declared.End.{End}
 use Rattle.graph.specs.declared.Edges.{Edges}
 use Rattle.graph.specs.Dag.{absent, present, Edge}
+use Rattle.links.specs.declared.numbers.Node.{Node}
 use Rattle.links.specs.declared.ends.Members.{Members}
 use Rattle.links.specs.declared.ends.Members.TheVariants.{Empty, Only, Several}
 use Rattle.links.specs.Links.{Linked}
@@ -26,20 +27,21 @@ has_node Several = true
 
 -- where it says that a block has one node alone, the block has that node and no other
 abbrev pub IsOnly : Members → List Bool → Type 0
-IsOnly members block = (u : NodeIndex) → members ≡ Only u → (u.0 < 512) × (block ≡ set (replicate 512 false) u.0 true)
+IsOnly members block = (u : Node) → members ≡ Only u → block ≡ set (replicate 512 false) u.number.0 true
 
--- what an insertion knows of an end: a bound from which on no qubit is mapped, and of the block whether it has a node, and which it has alone
+-- an end of a graph of n nodes: each of its entries is absent or one of these
+pub record EndFits (n : ℕ) (e : End) : Type 0 where
+  pub entries : (q : ℕ) → present (get_or e.node q absent) ≡ true → get_or e.node q absent < n
+  pub all : present e.all.0 ≡ true → e.all.0 < n
+
+-- what an insertion knows of an end: that it names nodes of a graph, a bound from which on no qubit is mapped, and of the block whether it has a
+-- node, and which it has alone
 pub record Known (e : End) (top : ℕ) (members : Members) : Type 0 where
+  pub fits : EndFits 512 e
   pub low : top ≤ 64
   pub above : (q : ℕ) → top ≤ q → get_or e.node q absent ≡ absent
   pub some : has_node members ≡ any_of (λ b. b) e.block
   pub only : IsOnly members e.block
-
--- an end of a graph of n nodes
-pub record EndFits (n : ℕ) (e : End) : Type 0 where
-  pub nodes : length e.node ≡ 64
-  pub entries : (q : ℕ) → present (get_or e.node q absent) ≡ true → get_or e.node q absent < n
-  pub all : present e.all.0 ≡ true → e.all.0 < n
 
 -- edge i is e
 abbrev pub with_edge : Edges → ℕ → Edge → Edges

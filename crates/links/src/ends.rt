@@ -1,24 +1,24 @@
 // The two ends of one insertion. near is the end of the insertion (last at the back, first at the front), far the other.
-ghost use Rattle.std.specs.Prelude.{◌≡◌, true, false, not, cond, ◌&&◌, List, [], map, ℕ, ◌+◌, ◌-◌, ◌≤◌, ◌<◌, ltb, length, set, replicate};
-ghost use Rattle.std.specs.Int.Bits.{bit_and};
-ghost use Rattle.std.specs.Int.Count.{count_trailing_zeros};
+ghost use Rattle.std.specs.Prelude.{◌≡◌, true, false, cond, ◌&&◌, List, [], map, ℕ, ◌+◌, ◌≤◌, ◌<◌, ltb, length, set, replicate};
 ghost use Rattle.file.specs.Lists.{any_of, add};
-ghost use Rattle.graph.specs.Dag.{absent, present, or_else, node, no_end};
+ghost use Rattle.graph.specs.Dag.{present, or_else, node, no_end};
 ghost use Rattle.graph.specs.declared.End.{End};
-ghost use Rattle.links.specs.Links.{rule_of, qubits, near_after, far_after, source, no_qubit, mapped, link_set, link_all, link_by, link_at, edge_bound};
+ghost use Rattle.links.specs.Links.{rule_of, qubits, near_after, source, no_qubit, mapped, link_set, link_all, link_by, link_at, edge_bound};
+ghost use Rattle.links.specs.Numbers.{number_of};
 ghost use Rattle.links.specs.Ends.{entry_at, with_entry, IsOnly, EndFits, Joined, JoinedEnds};
 
 use crate::LoadingRule;
+use crate::numbers::{MapQubit, Node, Qubits};
 use crate::others::Others;
 use file::InvolvedQubits;
-use graph::{End, NodeIndex, Qubit};
+use graph::{End, NodeIndex};
 use std::marker::Model;
 
 // What is known of the nodes of a block: that it has none, that it has one alone, or that it has one or more.
 #[derive(Clone, Copy)]
 enum Members {
     Empty,
-    Only(NodeIndex),
+    Only(Node),
     Several,
 }
 
@@ -56,8 +56,8 @@ impl WorkingEnd {
 
     // An end of a graph, of whose block it is known only whether it has a node.
     pub(crate) fn of(end: End) -> WorkingEnd
-        ensures same { result ≡ end }
-        ensures sized { length end.node ≡ 64 }
+        requires { EndFits 512 end }
+        ensures { result ≡ end }
     {
         let members = if graph::has_member(end.block) {
             Members::Several
@@ -77,76 +77,72 @@ impl WorkingEnd {
         self.end
     }
 
-    fn all(&self) -> NodeIndex
-        ensures { result ≡ self.now.all }
+    fn all(&self) -> Option<Node>
+        ensures { number_of result ≡ self.now.all.0 }
     {
-        self.end.all
+        Node::named(self.end.all)
     }
 
-    // The entry of qubit q in the map from qubit to node. Linking reads and writes such a map by a Qubit, so that a node
-    // number handed over as a qubit is a type error.
-    fn node_at(&self, q: Qubit) -> NodeIndex
-        requires { q.0 < 64 }
-        ensures { result.0 ≡ entry_at self.now.node q }
+    // The entry of qubit q in the map from qubit to node. Linking reads and writes such a map by a MapQubit, so that a node
+    // handed over as a qubit is a type error.
+    fn node_at(&self, q: MapQubit) -> Option<Node>
+        ensures { number_of result ≡ entry_at self.now.node q.number }
     {
-        NodeIndex(self.end.node[usize::from(q.0)])
+        Node::named(NodeIndex(self.end.node[q.index()]))
     }
 
     // The entry of qubit q becomes v.
-    fn set_node(&mut self, q: Qubit, v: NodeIndex)
-        requires { q.0 < 64 }
-        ensures { self.new ≡ record self.old { node = with_entry self.old.node q v } }
+    fn set_node(&mut self, q: MapQubit, v: Node)
+        ensures { self.new ≡ record self.old { node = with_entry self.old.node q.number v.number } }
     {
-        let i = usize::from(q.0);
-        self.end.node[i] = v.0;
+        let i = q.index();
+        self.end.node[i] = v.number.0;
         self.top = usize::max(self.top, i + 1);
     }
 
     // The source, where there is one, leaves the block, and v joins it.
-    fn replace(&mut self, source: NodeIndex, v: NodeIndex)
-        requires { (v.0 < 512) × (present source.0 ≡ true → source.0 < 512) }
-        ensures { self.new ≡ record self.old { block = set (cond (present source.0) (set self.old.block source.0 false) self.old.block) v.0 true } }
+    fn replace(&mut self, source: Option<Node>, v: Node)
+        ensures { self.new ≡ record self.old { block = set (cond (present (number_of source)) (set self.old.block (number_of source) false) self.old.block) v.number.0 true } }
     {
-        if source.0 != 65535 {
-            self.end.block[usize::from(source.0)] = false;
+        if let Some(u) = source {
+            self.end.block[u.index()] = false;
         }
-        self.end.block[usize::from(v.0)] = true;
+        self.end.block[v.index()] = true;
         self.members = Members::Several;
     }
 
     // v joins the block, if it does.
-    fn join_block(&mut self, v: NodeIndex, joins: bool)
-        requires { v.0 < 512 }
-        ensures { self.new ≡ record self.old { block = cond joins (set self.old.block v.0 true) self.old.block } }
+    fn join_block(&mut self, v: Node, joins: bool)
+        ensures { self.new ≡ record self.old { block = cond joins (set self.old.block v.number.0 true) self.old.block } }
     {
         if joins {
-            self.end.block[usize::from(v.0)] = true;
+            self.end.block[v.index()] = true;
             self.members = Members::Several;
         }
     }
 
     // "lastAll becomes v; the last block becomes {v}".
-    fn keep_only(&mut self, v: NodeIndex)
-        requires { v.0 < 512 }
-        ensures { self.new ≡ record self.old { all = v; block = set (replicate 512 false) v.0 true } }
+    fn keep_only(&mut self, v: Node)
+        ensures { self.new ≡ record self.old { all = v.number; block = set (replicate 512 false) v.number.0 true } }
     {
         clear_block(&mut self.end.block, self.members);
-        self.end.block[usize::from(v.0)] = true;
-        self.end.all = v;
+        self.end.block[v.index()] = true;
+        self.end.all = v.number;
         self.members = Members::Only(v);
     }
 
     // "firstAll becomes v if absent; v joins the first block if that is empty".
-    fn admit(&mut self, v: NodeIndex)
-        requires { v.0 < 512 }
+    fn admit(&mut self, v: Node)
         ensures { self.new ≡ record self.old {
-          all = node (or_else self.old.all.0 v.0);
-          block = cond (any_of (λ b. b) self.old.block) self.old.block (set self.old.block v.0 true);
+          all = node (or_else self.old.all.0 v.number.0);
+          block = cond (any_of (λ b. b) self.old.block) self.old.block (set self.old.block v.number.0 true);
         } }
     {
-        self.end.all = or_else(self.end.all, v);
+        if self.end.all.0 == 65535 {
+            self.end.all = v.number;
+        }
         if let Members::Empty = self.members {
-            self.end.block[usize::from(v.0)] = true;
+            self.end.block[v.index()] = true;
             self.members = Members::Several;
         }
     }
@@ -159,12 +155,12 @@ impl WorkingEnd {
     }
 
     // Every node in the map is joined with v, and its qubits map to v.
-    fn map_all(&mut self, v: NodeIndex, others: &mut Others)
+    fn map_all(&mut self, v: Node, others: &mut Others)
         requires { others.old ≡ [] }
-        ensures nodes { self.new ≡ record self.old { node = map (λ (u : ℕ). cond (present u) v.0 u) self.old.node } }
+        ensures nodes { self.new ≡ record self.old { node = map (λ (u : ℕ). cond (present u) v.number.0 u) self.old.node } }
         ensures joined { others.new ≡ mapped self.old.node [] }
     {
-        map_to(&mut self.end.node[..self.top], v, others);
+        map_to(&mut self.end.node[..self.top], v.number, others);
     }
 }
 
@@ -174,7 +170,7 @@ fn clear_block(block: &mut [bool; 512], members: Members)
     ensures { block.new ≡ replicate 512 false }
 {
     match members {
-        Members::Only(u) => block[usize::from(u.0)] = false,
+        Members::Only(u) => block[u.index()] = false,
         _ => *block = [false; 512],
     }
 }
@@ -195,37 +191,15 @@ fn map_to(entries: &mut [u16], v: NodeIndex, others: &mut Others)
     }
 }
 
-// a, else b.
-fn or_else(a: NodeIndex, b: NodeIndex) -> NodeIndex
-    ensures { result.0 ≡ or_else a.0 b.0 }
-{
-    if a.0 != 65535 { a } else { b }
-}
-
 // What a new qubit's entry at the far end becomes: the rule's all-qubit node, else v.
-fn fresh_entry(rule: LoadingRule, near: &WorkingEnd, far: &WorkingEnd, v: NodeIndex) -> NodeIndex
-    ensures { result.0 ≡ or_else (rule_of rule near.now far.now) v.0 }
+fn fresh_entry(rule: LoadingRule, near: &WorkingEnd, far: &WorkingEnd, v: Node) -> Node
+    ensures { result.number.0 ≡ or_else (rule_of rule near.now far.now) v.number.0 }
 {
     let all = match rule {
         LoadingRule::NearAll => near.all(),
         LoadingRule::FarAll => far.all(),
     };
-    or_else(all, v)
-}
-
-// The lowest qubit of a mask.
-fn lowest(m: u64) -> Qubit
-    ensures { result.0 ≡ count_trailing_zeros 64 m }
-{
-    Qubit(u64::trailing_zeros(m) as u8)
-}
-
-// The mask without its lowest qubit.
-fn without_lowest(m: u64) -> u64
-    requires { 0 < m }
-    ensures { result ≡ bit_and m (m - 1) }
-{
-    m & (m - 1)
+    all.unwrap_or(v)
 }
 
 // How many qubits a mask has.
@@ -261,28 +235,30 @@ pub(crate) fn edges_pass(edges: usize, k: usize, qubits: InvolvedQubits) -> bool
     2048 < edges + k
 }
 
+// near, far and others stand as three parameters in what follows: methods of a struct of three `&mut` would name them by nested pairs of what it
+// leaves, and would have to say besides that each still refers to the same value.
 // "Set, each qubit q": a qubit that is new at the near end becomes fresh at the far end.
 fn link_qubit(
     near: &mut WorkingEnd,
     far: &mut WorkingEnd,
     others: &mut Others,
-    q: Qubit,
-    fresh: NodeIndex,
-    v: NodeIndex,
+    q: MapQubit,
+    fresh: Node,
+    v: Node,
 )
-    requires numbers { (q.0 < 64) × (v.0 < 512) }
-    requires from { present (source near.old q.0) ≡ true → source near.old q.0 < 512 }
-    requires room { length others.old < 64 }
-    ensures near { near.new ≡ near_after near.old q.0 v.0 }
-    ensures far { far.new ≡ record far.old { node = cond (present (entry_at near.old.node q)) far.old.node (set far.old.node q.0 fresh.0) } }
-    ensures others { others.new ≡ cond (present (source near.old q.0)) (add (source near.old q.0) others.old) others.old }
+    requires { length others.old < 64 }
+    ensures near { near.new ≡ near_after near.old q.number.0 v.number.0 }
+    ensures far { far.new ≡ record far.old { node = cond (present (entry_at near.old.node q.number)) far.old.node (set far.old.node q.number.0 fresh.number.0) } }
+    ensures others { others.new ≡ cond (present (source near.old q.number.0)) (add (source near.old q.number.0) others.old) others.old }
 {
     let old = near.node_at(q);
-    let source = or_else(old, near.all());
+    let source = old.or(near.all());
     near.set_node(q, v);
     near.replace(source, v);
-    others.add(source);
-    if old.0 == 65535 {
+    if let Some(u) = source {
+        others.add(u.number);
+    }
+    if old.is_none() {
         far.set_node(q, fresh);
     }
 }
@@ -293,17 +269,14 @@ fn join_set(
     far: &mut WorkingEnd,
     others: &mut Others,
     mask: u64,
-    v: NodeIndex,
+    v: Node,
     rule: LoadingRule,
 )
-    requires { (v.0 < 512) × EndFits v.0 near.old × EndFits v.0 far.old × (others.old ≡ []) }
-    ensures { Joined (link_set (rule_of rule) mask v.0 near.old far.old) near.new far.new others.new }
+    requires { others.old ≡ [] }
+    ensures { Joined (link_set (rule_of rule) mask v.number.0 near.old far.old) near.new far.new others.new }
 {
     let fresh = fresh_entry(rule, &*near, &*far, v);
-    let mut m = mask;
-    while m != 0 {
-        let q = lowest(m);
-        m = without_lowest(m);
+    for q in Qubits::of(mask) {
         link_qubit(near, far, others, q, fresh, v);
     }
     far.join_block(v, others.len() == 0);
@@ -317,16 +290,17 @@ fn both_empty(near: &WorkingEnd, far: &WorkingEnd) -> bool
 }
 
 // v joins both ends as All.
-fn join_all(near: &mut WorkingEnd, far: &mut WorkingEnd, others: &mut Others, v: NodeIndex)
-    requires { (v.0 < 512) × (others.old ≡ []) }
-    ensures { Joined (link_all v.0 near.old far.old) near.new far.new others.new }
+fn join_all(near: &mut WorkingEnd, far: &mut WorkingEnd, others: &mut Others, v: Node)
+    requires { others.old ≡ [] }
+    ensures { Joined (link_all v.number.0 near.old far.old) near.new far.new others.new }
 {
     let empty = both_empty(&*near, &*far);
     near.keep_only(v);
     far.admit(v);
     if empty {
-        near.set_node(Qubit(0), v);
-        far.set_node(Qubit(0), v);
+        let zero = MapQubit::zero();
+        near.set_node(zero, v);
+        far.set_node(zero, v);
         return;
     }
     near.map_all(v, others);
@@ -338,11 +312,10 @@ fn join_end(
     far: &mut WorkingEnd,
     others: &mut Others,
     qubits: InvolvedQubits,
-    v: NodeIndex,
+    v: Node,
     rule: LoadingRule,
 )
-    requires { (v.0 < 512) × EndFits v.0 near.old × EndFits v.0 far.old }
-    ensures { Joined (link_by qubits (rule_of rule) v.0 near.old far.old) near.new far.new others.new }
+    ensures { Joined (link_by qubits (rule_of rule) v.number.0 near.old far.old) near.new far.new others.new }
 {
     others.clear();
     match qubits {
@@ -352,18 +325,17 @@ fn join_end(
     }
 }
 
-// v joins the graph's two ends: at the back near is last, at the front first.
+// v joins the graph's two ends: at the back near is last, at the front first. front stays a bool, as in the file's record.
 pub(crate) fn join_record(
     first: &mut WorkingEnd,
     last: &mut WorkingEnd,
     others: &mut Others,
     front: bool,
     qubits: InvolvedQubits,
-    v: NodeIndex,
+    v: Node,
     rule: LoadingRule,
 )
-    requires { (v.0 < 512) × EndFits v.0 first.old × EndFits v.0 last.old }
-    ensures { JoinedEnds front (link_at (rule_of rule) front qubits v.0 first.old last.old) first.new last.new others.new }
+    ensures { JoinedEnds front (link_at (rule_of rule) front qubits v.number.0 first.old last.old) first.new last.new others.new }
 {
     if front {
         return join_end(first, last, others, qubits, v, rule);

@@ -3,6 +3,7 @@
 #![tactic(auto)]
 
 mod ends;
+mod numbers;
 mod others;
 mod records;
 
@@ -17,7 +18,8 @@ pub enum LoadingRule {
     FarAll,
 }
 
-// How many nodes there are, whether all records were accepted, and the ends and edges that join the nodes.
+// How many nodes there are, whether all records were accepted, and the ends and edges that join the nodes. No Result: a refusal has a count and,
+// of a single record, the ends and edges that were handed in.
 #[derive(Clone, Copy)]
 pub struct LinkedRecords {
     pub accepted: usize,

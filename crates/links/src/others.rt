@@ -1,14 +1,14 @@
 // The distinct nodes that the node of a record is joined with, and the edges to them.
-ghost use Rattle.std.specs.Prelude.{◌≡◌, cond, List, [], map, ℕ, ◌+◌, ◌≤◌, ◌<◌, length, take};
+ghost use Rattle.std.specs.Prelude.{◌≡◌, List, [], map, ℕ, ◌+◌, ◌≤◌, ◌<◌, length, take};
 ghost use Rattle.file.specs.Lists.{member, add};
-ghost use Rattle.graph.specs.Dag.{present, with_edges};
+ghost use Rattle.graph.specs.Dag.{with_edges};
 ghost use Rattle.links.specs.Links.{link};
 ghost use Rattle.links.specs.Ends.{with_edge};
 
 use graph::{Edges, NodeIndex};
 use std::marker::Model;
 
-// At most 64 nodes, in the order in which they came.
+// At most 64 nodes, in the order in which they came: an array with its count, since the library has no heap.
 #[derive(Drop)]
 pub(crate) struct Others {
     node: [u16; 64],
@@ -58,14 +58,11 @@ impl Others {
         false
     }
 
-    // The node s, where there is one, joins them unless it is among them.
+    // The node s joins them, unless it is among them.
     pub(crate) fn add(&mut self, s: NodeIndex)
         requires { length self.old < 64 }
-        ensures { self.new ≡ cond (present s.0) (add s.0 self.old) self.old }
+        ensures { self.new ≡ add s.0 self.old }
     {
-        if s.0 == 65535 {
-            return;
-        }
         if self.holds(s) {
             return;
         }

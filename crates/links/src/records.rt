@@ -11,6 +11,7 @@ ghost use Rattle.links.specs.Links.{rule_of};
 ghost use Rattle.links.specs.Linking.{links_from, links_stopped, no_links, links_fit, links_kept, answered, link_record, link_node, link_records};
 
 use crate::ends::{WorkingEnd, edges_pass, join_record};
+use crate::numbers::Node;
 use crate::others::{Others, add_edges};
 use crate::{LinkedRecords, LoadingRule};
 use file::{InvolvedQubits, Refusal};
@@ -81,11 +82,13 @@ struct Links {
     first: WorkingEnd,
     last: WorkingEnd,
     others: Others,
+    ghost room: { edges.count ≤ 2048 },
 }
 
 impl Links {
     fn new() -> Links
-        ensures { result ≡ record { edges = empty.edges; first = no_end; last = no_end; others = [] } }
+        ensures edges { result.edges ≡ empty.edges }
+        ensures ends { (result.first ≡ no_end) × (result.last ≡ no_end) }
     {
         Links {
             edges: graph::no_edges(),
@@ -97,8 +100,9 @@ impl Links {
 
     // Those of a graph.
     fn of(edges: Edges, first: End, last: End) -> Links
-        ensures same { result ≡ record { edges = edges; first = first; last = last; others = [] } }
-        ensures sized { (length first.node ≡ 64) × (length last.node ≡ 64) }
+        requires { (edges.count ≤ 2048) × EndFits 512 first × EndFits 512 last }
+        ensures edges { result.edges ≡ edges }
+        ensures ends { (result.first ≡ first) × (result.last ≡ last) }
     {
         Links {
             edges,
@@ -117,14 +121,10 @@ impl Links {
         qubits: InvolvedQubits,
         k: usize,
     ) -> Result<(), Refusal>
-        requires { (self.old.edges.count ≤ 2048) × EndFits k self.old.first × EndFits k self.old.last }
         ensures { answered k result self.new.edges self.new.first self.new.last
             ≡ link_record (rule_of rule) i front qubits (links_from k self.old.edges self.old.first self.old.last) }
     {
-        if 512 <= k {
-            return Err(Refusal::TooManyNodes);
-        }
-        let v = NodeIndex(k as u16);
+        let v = Node::at(k)?;
         join_record(
             &mut self.first,
             &mut self.last,
@@ -137,7 +137,7 @@ impl Links {
         if edges_pass(self.edges.count, self.others.len(), qubits) {
             return Err(Refusal::TooManyEdges(i));
         }
-        add_edges(&mut self.edges, front, v, &self.others);
+        add_edges(&mut self.edges, front, v.number, &self.others);
         Ok(())
     }
 
@@ -172,6 +172,10 @@ pub fn link_node(
     let n = usize::from(v.0);
     if !links_fit(n, &edges, &first, &last) {
         return links_kept(v, edges, first, last, Refusal::Unsound);
+    }
+    // Links name only nodes below 512.
+    if 512 <= n {
+        return links_kept(v, edges, first, last, Refusal::TooManyNodes);
     }
     let mut links = Links::of(edges, first, last);
     match links.take(rule, i, front, qubits, n) {

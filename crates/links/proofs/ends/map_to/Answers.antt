@@ -8,6 +8,6 @@ loop-u-init c = mapping_begins _ _ _ c.requires.none
 
 pub loop-u-preserved : goal.loop-u-preserved
 loop-u-preserved c = elim c.if-u.branch [
-  | then-u w ↦ mapping_goes _ _ _ _ _ c.loop-u.invariant c.loop-u-test.true _ _ (rw (is-present _ w.if-u.true) w.entries-is) (w.others-is ∙ w.add.ensures)
+  | then-u w ↦ mapping_goes _ _ _ _ _ c.loop-u.invariant c.loop-u-test.true _ _ (rw (is-present _ w.if-u.true) w.entries-is) (rw (is-present _ w.if-u.true) (w.others-is ∙ w.add.ensures))
   | else-u w ↦ mapping_goes _ _ _ _ _ c.loop-u.invariant c.loop-u-test.true _ _ (rw (is-absent _ w.if-u.false) w.entries-is) (rw (is-absent _ w.if-u.false) w.others-is)
 ]

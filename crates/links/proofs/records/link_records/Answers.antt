@@ -1,20 +1,16 @@
 use Rattle.std.proofs.Common.{◌∙◌, arith}
 use Rattle.graph.specs.Dag.{empty}
-use Rattle.links.proofs.LinkLaws.{names_all}
 use Rattle.links.proofs.LinkingLaws.{read_taken, read_refused, begin, finish, not_taken, stopped, again}
 use Rattle.links.proofs.records.link_records.Goals as goal
 
 pub loop-k-init : goal.loop-k-init
 unfolding empty
-loop-k-init c = rw c.new-links.ensures (begin _ _ _)
+loop-k-init c = let new = c.new-links.ensures in rw (new.edges, new.ends.0, new.ends.1) (begin _ _ _)
 
 pub returns-in-Err : goal.returns-in-Err
 returns-in-Err c =
     c.links_stopped.ensures ∙ not_taken _ _ _ _ _ _ _ c.loop-k.invariant c.loop-k-test.true _ c.from-i.ensures _
     (read_refused _ _ _ _ c.part_of.ensures.bytes c.parse_record.ensures _ c.in-Err.is _ c.record_refusal.ensures)
-
-pub take-requires : goal.take-requires
-take-requires c = let f = c.loop-k.invariant.fits in (f.room, f.first_fits, f.last_fits)
 
 pub returns-in-Err-take : goal.returns-in-Err-take
 returns-in-Err-take c =
@@ -24,7 +20,7 @@ returns-in-Err-take c =
 pub loop-k-preserved : goal.loop-k-preserved
 loop-k-preserved c =
     again _ _ _ _ _ _ _ c.loop-k.invariant c.loop-k-test.true _ c.from-i.ensures _
-    (read_taken _ _ _ _ c.part_of.ensures.bytes c.parse_record.ensures _ c.in-Ok.is) (names_all c.args.rule) _ _ _ (c.in_default.ensures)
+    (read_taken _ _ _ _ c.part_of.ensures.bytes c.parse_record.ensures _ c.in-Ok.is) _ _ _ (c.in_default.ensures)
 
 pub returns : goal.returns
 returns c = c.into_linked.ensures ∙ finish _ _ _ _ _ _ _ c.loop-k.invariant (omega arith)

@@ -1,6 +1,13 @@
 use Rattle.std.proofs.Common.{arith}
 use Rattle.links.proofs.EndLaws.{known_more}
+use Rattle.links.proofs.ends.WorkingEnd.admit.Goals.{then-self, else-self}
 use Rattle.links.proofs.ends.WorkingEnd.admit.Goals as goal
 
 pub invariant_of-self : goal.invariant_of-self
-invariant_of-self c = rw c.from.ensures (known_more _ _ _ c.self.invariant _ c.self.inside.end.block c.args.v.0 (omega arith))
+invariant_of-self c =
+    let k = c.self.invariant in
+    let v = c.args.v in
+    elim c.if-self.branch [
+      | then-self w ↦ rw (w.self-inside-is, c.index.ensures) (known_more _ _ _ k _ (λ p. v.low) c.self.inside.end.block v.number.0 (omega arith))
+      | else-self w ↦ rw (w.self-inside-is, c.index.ensures) (known_more _ _ _ k _ k.fits.all c.self.inside.end.block v.number.0 (omega arith))
+    ]
