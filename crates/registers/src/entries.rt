@@ -1,6 +1,6 @@
 // The register maps of a circuit while records are entered: entry i has the key (name[i], index[i]) and the node node[i]. The
 // rules are in specs/Registers.antt, what the methods answer in specs/RegisterMaps.antt.
-ghost use Rattle.std.specs.Prelude.{◌≡◌, false, not, ◌<◌, ◌≤◌, IsTrue, ◌↔◌, IfOk};
+ghost use Rattle.std.specs.Prelude.{◌≡◌, false, not, ◌<◌, ◌≤◌, IsTrue, ◌↔◌, IfOk, MatchResult};
 ghost use Rattle.file.specs.Records.{front};
 ghost use Rattle.graph.specs.Dag.{entries_of};
 ghost use Rattle.file.specs.declared.InvolvedClassical.TheVariants.{Set};
@@ -15,7 +15,28 @@ use graph::{NodeIndex, Registers};
 #[derive(Clone, Copy)]
 pub(crate) struct NoRoom;
 
-// A register map and, for keys, where they may stand: a guess, compared with the key before use; nothing is promised of it.
+// A definition by the record of node v: the keys 0 to length - 1 of a name.
+#[derive(Clone, Copy)]
+struct Definition {
+    name: u8,
+    length: u16,
+    v: NodeIndex,
+    ghost few: { length ≤ 256 },
+}
+
+impl Definition {
+    // A longer one passes a map's 256 keys, whatever the map has.
+    fn of(name: u8, length: u16, v: NodeIndex) -> Result<Definition, NoRoom>
+        ensures { MatchResult result (λ d. (d.name ≡ name) × (d.length ≡ length) × (d.v ≡ v)) (λ _. 256 < length) }
+    {
+        if 256 < length {
+            return Err(NoRoom);
+        }
+        Ok(Definition { name, length, v })
+    }
+}
+
+// A register map, an array for each part of an entry as C reads it, and, for keys, where they may stand: a guess, compared with the key before use; nothing is promised of it.
 #[derive(Drop)]
 pub(crate) struct RegisterMap {
     pub(crate) entries: Registers,
@@ -58,12 +79,7 @@ impl RegisterMap {
         if guess < self.entries.count && self.stands_at(guess, key) {
             return Some(guess);
         }
-        for p in 0..self.entries.count {
-            if self.stands_at(p, key) {
-                return Some(p);
-            }
-        }
-        None
+        (0..self.entries.count).find(|p| self.stands_at(*p, key))
     }
 
     // Whether there is no room for one more key.
@@ -84,6 +100,7 @@ impl RegisterMap {
         self.entries.index[n] = key.index;
         self.entries.node[n] = v.0;
         self.entries.count = n + 1;
+        // A cast: n is below 256.
         self.hints[hint_cell(key)] = n as u8;
     }
 
@@ -103,53 +120,43 @@ impl RegisterMap {
         Ok(true)
     }
 
-    // Which of the keys 0 to m - 1 of the name stand; each of those becomes v.
-    fn mark(&mut self, name: u8, m: u16, v: NodeIndex) -> [bool; 256]
-        requires { m ≤ 256 }
-        ensures { Standing name m v.0 self.old.entries self.new.entries result }
+    // Which of the definition's keys stand; each of those becomes its node.
+    fn mark(&mut self, d: Definition) -> [bool; 256]
+        ensures { Standing d.name d.length d.v.0 self.old.entries self.new.entries result }
     {
         let mut there = [false; 256];
         for p in 0..self.entries.count {
-            if self.entries.name[p] == name && self.entries.index[p] < m {
-                self.entries.node[p] = v.0;
+            if self.entries.name[p] == d.name && self.entries.index[p] < d.length {
+                self.entries.node[p] = d.v.0;
                 there[usize::from(self.entries.index[p])] = true;
             }
         }
         there
     }
 
-    // The keys 0 to m - 1 of the name that are not marked, behind the others.
-    fn append_unmarked(
-        &mut self,
-        there: &[bool; 256],
-        name: u8,
-        m: u16,
-        v: NodeIndex,
-    ) -> Result<(), NoRoom>
-        requires few { m ≤ 256 }
-        requires marked { Marked name m v.0 (entries_of self.old.entries) there.now }
-        ensures { Becomes result self.old.entries self.new.entries (put_all (definition name v.0 m 0) (entries_of self.old.entries)) }
+    // The definition's keys that are not marked, behind the others.
+    fn append_unmarked(&mut self, there: &[bool; 256], d: Definition) -> Result<(), NoRoom>
+        requires { Marked d.name d.length d.v.0 (entries_of self.old.entries) there.now }
+        ensures { Becomes result self.old.entries self.new.entries (put_all (definition d.name d.v.0 d.length 0) (entries_of self.old.entries)) }
     {
-        for index in 0..m {
+        let name = d.name;
+        for index in 0..d.length {
             if !there[usize::from(index)] {
                 if self.is_full() {
                     return Err(NoRoom);
                 }
-                self.append(RegisterKey { name, index }, v);
+                self.append(RegisterKey { name, index }, d.v);
             }
         }
         Ok(())
     }
 
-    // A definition of length m: the keys 0 to m - 1 of the name become v. Not by a `put` of each: an absent key is compared with every entry.
-    fn define(&mut self, name: u8, m: u16, v: NodeIndex) -> Result<(), NoRoom>
-        ensures { Becomes result self.old.entries self.new.entries (put_all (definition name v.0 m 0) (entries_of self.old.entries)) }
+    // The definition's keys become its node. Not by a `put` of each: an absent key is compared with every entry.
+    fn define(&mut self, d: Definition) -> Result<(), NoRoom>
+        ensures { Becomes result self.old.entries self.new.entries (put_all (definition d.name d.v.0 d.length 0) (entries_of self.old.entries)) }
     {
-        if 256 < m {
-            return Err(NoRoom);
-        }
-        let there = self.mark(name, m, v);
-        self.append_unmarked(&there, name, m, v)
+        let there = self.mark(d);
+        self.append_unmarked(&there, d)
     }
 
     // All or AllQubits of a name: only the keys of the name stay, all now v. What stands behind them stays.
@@ -204,9 +211,10 @@ fn enter_maps(
             Ok(())
         }
         InvolvedClassical::Set(c) => set_keys(part, c, v, near, far),
-        InvolvedClassical::Definition(name, m) => {
-            near.define(name, m, v)?;
-            far.define(name, m, v)
+        InvolvedClassical::Definition(name, length) => {
+            let d = Definition::of(name, length, v)?;
+            near.define(d)?;
+            far.define(d)
         }
     }
 }

@@ -10,7 +10,8 @@ use graph::Registers;
 use links::LinkedRecords;
 pub use maps::{register_record, register_records};
 
-// How many nodes there are, whether all records were accepted, and the register maps.
+// How many nodes there are, whether all records were accepted, and the register maps. No Result: a refusal has a count and, of a single record, the
+// maps that were handed in.
 #[derive(Clone, Copy)]
 pub struct Registered {
     pub accepted: usize,

@@ -104,8 +104,7 @@ pub fn register_record(
     if !maps_fit(first, last, v) {
         return maps_kept(v, first, last, Refusal::Unsound);
     }
-    let parsed = file::parse_record(part);
-    let r = match parsed {
+    let r = match file::parse_record(part) {
         Ok(r) => r,
         Err(c) => return maps_kept(v, first, last, file::at_record(i, c)),
     };

@@ -3,7 +3,7 @@ use Rattle.registers.proofs.entries.RegisterMap.append_unmarked.Goals as goal
 use Rattle.registers.proofs.entries.RegisterMap.append_unmarked.Goals.{then-not-there-from+else-is_full, else-not-there-from}
 
 pub loop-index-init : goal.loop-index-init
-loop-index-init c = append_begin _ _ _ _ _ c.args.self.now.fits c.requires.marked
+loop-index-init c = append_begin _ _ _ _ _ c.args.self.now.fits c.requires
 
 pub returns-then-is_full : goal.returns-then-is_full
 returns-then-is_full c =

@@ -5,10 +5,10 @@ use Rattle.registers.proofs.entries.RegisterMap.mark.Goals as goal
 use Rattle.registers.proofs.entries.RegisterMap.mark.Goals.{then-self-p+then-self-p-2, else-self-p, else-self-p-via-then-self-p+else-self-p-2, else-self-p-via-else-self-p}
 
 pub loop-p-init : goal.loop-p-init
-loop-p-init c = record { all = refl; marking = mark_begin _ _ _ _ c.requires c.args.self.now.fits }
+loop-p-init c = record { all = refl; marking = mark_begin _ _ _ _ c.args.d.few c.args.self.now.fits }
 
 pub invariant_of-self : goal.invariant_of-self
-invariant_of-self c = record { fits = there_fits _ c.loop-p.self.fits (record { name = c.args.name; index = _ }) c.args.v.0 _ (omega arith) (c.if-self-p.true, refl) }
+invariant_of-self c = record { fits = there_fits _ c.loop-p.self.fits (record { name = c.args.d.name; index = _ }) c.args.d.v.0 _ (omega arith) (c.if-self-p.true, refl) }
 
 pub loop-p-preserved : goal.loop-p-preserved
 loop-p-preserved c =
