@@ -11,21 +11,14 @@ use registers::Registered;
 pub(crate) fn assemble(n: NodeLists, x: LinkedRecords, r: Registered) -> CircuitDag
     ensures { result ≡ assembled n x r }
 {
-    let nodes = n.nodes;
-    let edges = x.edges;
-    let first = x.first;
-    let last = x.last;
-    let first_registers = r.first;
-    let last_registers = r.last;
-    let commuting = n.commuting;
     CircuitDag {
-        nodes,
-        edges,
-        first,
-        last,
-        first_registers,
-        last_registers,
-        commuting,
+        nodes: n.nodes,
+        edges: x.edges,
+        first: x.first,
+        last: x.last,
+        first_registers: r.first,
+        last_registers: r.last,
+        commuting: n.commuting,
         backs: n.backs,
         fronts: n.fronts,
     }

@@ -3,11 +3,10 @@ ghost use Rattle.std.specs.Prelude.{◌≡◌, true};
 ghost use Rattle.graph.specs.Soundness.{sound};
 ghost use Rattle.links.specs.Links.{rule_of};
 ghost use Rattle.insertion.specs.Limits.{refused, insert_as, insert_by, insert_of};
-ghost use Rattle.insertion.specs.Parts.{node_lists};
 
 use crate::Inserted;
 use crate::assembling::assemble;
-use crate::nodes::{NodeLists, list_node};
+use crate::nodes::NodeLists;
 use file::Refusal;
 use graph::{CircuitDag, NodeIndex};
 use links::LoadingRule;
@@ -22,47 +21,30 @@ fn not_inserted(r: Refusal, g: CircuitDag) -> Inserted
     }
 }
 
-// The nodes, the commuting list and the counts of insertions of a graph.
-fn node_lists(g: CircuitDag) -> NodeLists
-    ensures { result ≡ node_lists g }
-{
-    let nodes = g.nodes;
-    let commuting = g.commuting;
-    NodeLists {
-        nodes,
-        commuting,
-        backs: g.backs,
-        fronts: g.fronts,
-    }
-}
-
 // Record i on a sound graph: 4, 12, 5, 6, 7.
 fn insert_sound(rule: LoadingRule, i: usize, g: CircuitDag, part: &[u8]) -> Inserted
     requires { sound g ≡ true }
     ensures { result ≡ insert_as (rule_of rule) i g part.now }
 {
-    let parsed = file::parse_record(part);
-    let s = match parsed {
+    let s = match file::parse_record(part) {
         Ok(s) => s,
         Err(c) => return not_inserted(file::at_record(i, c), g),
     };
-    let n = g.nodes.count;
-    let v = NodeIndex(n as u16);
-    let front = s.front;
-    let qubits = s.qubits;
-    let x = links::link_node(rule, i, front, qubits, v, g.edges, g.first, g.last);
-    let answer = x.answer;
-    if let Err(cause) = answer {
+    // A cast: a sound graph has at most 512 nodes.
+    let v = NodeIndex(g.nodes.count as u16);
+    let x = links::link_node(rule, i, s.front, s.qubits, v, g.edges, g.first, g.last);
+    if let Err(cause) = x.answer {
         return not_inserted(cause, g);
     }
     let r = registers::register_record(i, g.first_registers, g.last_registers, part, v);
-    let registered = r.answer;
-    if let Err(cause) = registered {
+    if let Err(cause) = r.answer {
         return not_inserted(cause, g);
     }
+    let mut lists = NodeLists::of(g);
+    lists.push(part);
     Inserted {
         answer: Ok(v),
-        graph: assemble(list_node(part, node_lists(g)), x, r),
+        graph: assemble(lists, x, r),
     }
 }
 
