@@ -9,7 +9,6 @@ mod refusals;
 
 pub use pairs::{
     byte_at, check_file, locate_pair, locate_record, part_of, read_record, record_at, record_count,
-    to_index,
 };
 pub use records::{
     involved_classical, is_front, parse_record, qubit_form, record_label, register_form,

@@ -4,13 +4,6 @@ ghost use Rattle.file.specs.Pairs.{number_at, count_of, offset_of, length_of, he
 
 use crate::{Place, RecordPart, Refusal};
 
-// A number of two bytes, to count and index with. A call, since `a[i] as usize` would ask that the element fits.
-pub fn to_index(x: u16) -> usize
-    ensures { result ≡ x }
-{
-    x as usize
-}
-
 // The field of two bytes at a place.
 #[tactic(auto, unfolding(crate::specs::Pairs::number_at))]
 pub(crate) fn read_u16(s: &[u8], at: usize) -> usize
