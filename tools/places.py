@@ -108,11 +108,12 @@ def flags(top):
 
 
 def sentinels(top):
-    """Point 1: numbers that stand for none, or for a kind of answer: 65535 and 255 in comparisons and results."""
+    """Point 1: numbers that stand for none, or for a kind of answer: 65535 and 255, but in rows of data and in calls of tests."""
     for path, text, m in bodies(top, r"(?<![\w.])(65535|255)(?!\w)"):
-        line = text[text.rfind("\n", 0, m.start()) + 1:text.find("\n", m.start())]
-        if "/runs" not in path and not re.search(r"\[\s*\d+,|0x", line):
-            yield f"{path}:{text.count(chr(10), 0, m.start()) + 1} {line.strip()}"
+        line = text[text.rfind("\n", 0, m.start()) + 1:text.find("\n", m.start())].strip()
+        if re.match(r"(ensures|requires)|[\d, ]+$|(print|write)_\w+\(rt", line) or re.search(r"\bin \[", line):
+            continue
+        yield f"{path}:{text.count(chr(10), 0, m.start()) + 1} {line}"
 
 
 def twins(found):
