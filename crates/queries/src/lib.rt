@@ -15,7 +15,7 @@ pub use queries::{
     successors,
 };
 
-// Node or record numbers in an order: the first count of the list.
+// Node or record numbers in an order: the first count of the list. A list of its own length would stand on the heap.
 #[derive(Clone, Copy)]
 pub struct Order {
     pub count: usize,

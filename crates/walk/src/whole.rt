@@ -3,7 +3,6 @@ ghost use Rattle.std.specs.Prelude.{◌≡◌, true, false, cond, not, ◌&&◌,
 ghost use Rattle.file.specs.Lists.{members, onto, up_to};
 ghost use Rattle.graph.specs.Dag.{size};
 ghost use Rattle.graph.specs.Soundness.{sound};
-ghost use Rattle.queries.specs.Marks.{in_turn};
 ghost use Rattle.walk.specs.Blocks.{whole_walk, blocks, number_from, joined, start, next};
 ghost use Rattle.walk.specs.Numbering.{at, following, Swept, Settled, Begun, Zeroed, Counted, Reaching, Freed, free_after};
 
@@ -19,15 +18,6 @@ fn raised(old: u16, before: u16) -> u16
     old.max(before.saturating_add(1))
 }
 
-// The arc that comes i-th in a pass up or down the m arcs. An enum of the two directions would say no more than the flag,
-// and the next pass's direction is its negation.
-fn in_turn(i: usize, m: usize, up: bool) -> usize
-    requires { i < m }
-    ensures { result ≡ in_turn i m up }
-{
-    if up { i } else { m - (i + 1) }
-}
-
 // One pass along the edges, up or down the list: whether it changed a number. Like the passes below it goes over indices:
 // both ends lie in arrays of which the first count entries stand, and cutting them first would measure each twice.
 fn sweep(arcs: &Arcs, up: bool, num: &mut [u16; 512]) -> bool
@@ -35,7 +25,7 @@ fn sweep(arcs: &Arcs, up: bool, num: &mut [u16; 512]) -> bool
 {
     let mut changed = false;
     for i in 0..arcs.count {
-        let j = in_turn(i, arcs.count, up);
+        let j = arcs.in_turn(i, up);
         let t = usize::from(arcs.near[j]);
         let old = num[t];
         let new = raised(old, num[usize::from(arcs.far[j])]);
@@ -65,13 +55,13 @@ fn number_at_first(member: bool) -> u16
     if member { 0 } else { 65535 }
 }
 
-// So for all nodes. A loop and no `map` of the array, which stops the proof at its limit: it is 512 calls.
+// So for all nodes.
 fn first_numbers(block: &[bool; 512]) -> [u16; 512]
     ensures { Begun block.now result }
 {
     let mut num = [65535u16; 512];
-    for v in 0..512 {
-        num[v] = number_at_first(block[v]);
+    for (v, number) in num.iter_mut().enumerate() {
+        *number = number_at_first(block[v]);
     }
     num
 }
@@ -139,13 +129,13 @@ pub fn whole_walk(g: CircuitDag, buffer: &mut [u16]) -> Result<usize, Refusal>
     Ok(count_blocks(num))
 }
 
-// The members of either set. The index goes over three arrays at once.
+// The members of either set.
 fn join_marks(a: &[bool; 512], b: &[bool; 512]) -> [bool; 512]
     ensures { result ≡ joined a.now b.now }
 {
     let mut all = [false; 512];
-    for v in 0..512 {
-        all[v] = a[v] | b[v];
+    for (v, member) in all.iter_mut().enumerate() {
+        *member = a[v] | b[v];
     }
     all
 }
