@@ -3,13 +3,14 @@ use mathlib.Core.Path.{◌≡◌, refl, sym, ◌∙◌, ap}
 use mathlib.Core.Bool.{Bool, true, false, cond, ◌&&◌}
 use mathlib.Core.Logic.{⊎_elim}
 use mathlib.Core.List.{List, [], ◌∷◌, ◌++◌}
-use Prim.Native.Nat.{ℕ, suc, ◌+◌, ◌≤◌, ◌<◌}
+use Prim.Native.Nat.{ℕ, zero, suc, ◌+◌, ◌≤◌, ◌<◌}
 use native.Mathlib.Omega.{arith}
 use lib.Dec.{eqb}
-use lib.ListN.{length, get_or, drop, replicate, length-replicate, length-append}
-use lib.Seq.{sets, sets-eq}
+use lib.ListN.{length, get_or, take, replicate, length-replicate}
+use lib.Seq.{length-take-le}
+use Rattle.std.proofs.lemmas.List.{get_or-take}
 use borrow.Author.Tests.{lt-ltb}
-use Rattle.file.specs.Lists.{keep, up_to, member, members, any_of, is_empty, onto}
+use Rattle.file.specs.Lists.{keep, up_to, member, members, any_of, is_empty}
 use Rattle.file.specs.Pairs.{count_of}
 use Rattle.file.specs.declared.Refusal.{Refusal}
 use Rattle.file.specs.declared.Refusal.TheVariants.{ShortBuffer}
@@ -33,8 +34,7 @@ use Rattle.walk.proofs.IterationLaws.{next_iterated}
 use Rattle.schedule.specs.Schedule.{schedule_by, NotScheduledBy}
 use Rattle.schedule.proofs.ScheduleLaws.{walks, refuses, size_loaded, sound_loaded}
 use Rattle.report.specs.Lines.{in_block, lines_by, numbers_text}
-use Rattle.report.specs.Text.{decimal, line_text, lines_text, count_text, blocks_text, refused_text, loaded_text, file_text_by, text_of}
-use Rattle.report.proofs.TextLaws.{digits_few, stored, then_text, stored_as}
+use Rattle.report.specs.Text.{line_text, lines_text, count_text, blocks_text, refused_text, loaded_text, file_text_by}
 use Rattle.std.specs.Prelude.{Result, Ok, Err, ⊤}
 
 and_here : (a b : Bool) → b ≡ true → (a && b) ≡ a
@@ -93,26 +93,20 @@ module _ (g : CircuitDag) (s : sound g ≡ true) where
     walk_few : length (blocks g) ≤ n
     walk_few = I.ends
 
--- a text in the array that starts as zeros
-text_onto : (t : List ℕ) → length t ≤ 5120 → sets (replicate 5120 0) 0 t ≡ onto t (replicate 5120 0)
-text_onto t h =
-    let z : 0 + length t ≡ length t = omega arith in
-    sets-eq t (replicate 5120 0) 0 (omega (arith, h, length-replicate {A = ℕ} 5120 0)) ∙ ap (λ (k : ℕ). t ++ drop k (replicate 5120 0)) z
+-- the text by the first n numbers alone
+block_taken : (xs : List ℕ) (n t : ℕ) → in_block (take n xs) n t ≡ in_block xs n t
+block_taken xs n t = keep_same (λ v. eqb (get_or (take n xs) v absent) t) (λ v. eqb (get_or xs v absent) t) n
+    (λ v l. ap (λ (x : ℕ). eqb x t) (get_or-take n xs v absent l))
 
--- the count, then the lines
-pub numbers_text_lem : (numbers : List ℕ) (n count at p : ℕ) (old mid now : List ℕ) → at ≡ length (count_text count) → mid ≡ sets old 0 (count_text count)
-    → p ≡ at + length (lines_by numbers n count 0) → now ≡ sets mid at (lines_by numbers n count 0)
-    → (p ≡ length (numbers_text numbers n count)) × (now ≡ sets old 0 (numbers_text numbers n count))
-numbers_text_lem numbers n count at p old mid now a m e f =
-    let y : at ≡ 0 + length (count_text count) = omega (arith, a) in
-    let first = stored {old = old} {at = 0} {p = at} {now = mid} (count_text count) y m in
-    let r = stored_as (then_text first (lines_by numbers n count 0) p now e f) (numbers_text numbers n count) refl in
-    let z : 0 + length (numbers_text numbers n count) ≡ length (numbers_text numbers n count) = omega arith in
-    (r.0 ∙ z, r.1)
+lines_taken : (xs : List ℕ) (n k t : ℕ) → lines_by (take n xs) n k t ≡ lines_by xs n k t
+unfolding lines_by
+lines_taken xs n zero t = refl
+lines_taken xs n (suc k) t = λ i. line_text t (block_taken xs n t i) ++ lines_taken xs n k (t + 1) i
 
-pub count_short : (n : ℕ) → length (count_text n) ≤ 28
-unfolding count_text
-count_short n = omega (arith, digits_few 20 n, length-append (decimal n) (10 ∷ []))
+pub text_taken : (xs : List ℕ) (n k : ℕ) → n ≤ length xs → numbers_text (take n xs) (length (take n xs)) k ≡ numbers_text xs n k
+text_taken xs n k h =
+    ap (λ (m : ℕ). numbers_text (take n xs) m k) (length-take-le n xs h)
+    ∙ ap (λ (l : List ℕ). count_text k ++ l) (lines_taken xs n k 0)
 
 -- ---- the whole text
 
@@ -174,13 +168,3 @@ module _ (rule : LoadingRule) (s : List ℕ) (bytes : (i : ℕ) → get_or s i 0
       let f = size_loaded rule s bytes d.0 in
       absurd (omega (arith, f, long, d.2, (sound-within (load_by rule s).graph (sound_loaded rule s bytes d.0)).cap)))
       n.cause
-
--- a text that stands in the array that starts as zeros
-pub in_array : (t u : List ℕ) (n : ℕ) (zeros bytes : List ℕ) → t ≡ u → zeros ≡ replicate 5120 0 → n ≡ length t → n ≤ 5120 → bytes ≡ sets zeros 0 t
-    → record { length = n; bytes = bytes } ≡ text_of u
-in_array t u n zeros bytes e z l h b =
-    let whole = b ∙ ap (λ (y : List ℕ). sets y 0 t) z ∙ text_onto t (omega (arith, l, h)) in
-    (λ i. record { length = l i; bytes = whole i }) ∙ ap text_of e
-
-pub text_within : (n : ℕ) (zeros bytes : List ℕ) → zeros ≡ replicate 5120 0 → n ≤ 5120 → length bytes ≡ length zeros → n ≤ length bytes
-text_within n zeros bytes z h b = omega (arith, h, b, ap length z, length-replicate {A = ℕ} 5120 0)

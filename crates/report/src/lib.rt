@@ -5,6 +5,7 @@ ghost use Rattle.std.specs.Prelude.{◌≡◌};
 ghost use Rattle.report.specs.Text.{printed};
 
 mod lines;
+mod writer;
 
 pub use lines::{blocks_text, blocks_text_by};
 

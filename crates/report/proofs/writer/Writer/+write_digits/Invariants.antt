@@ -1,4 +1,4 @@
-use Rattle.report.proofs.lines.+write_digits.Given as goal
+use Rattle.report.proofs.writer.Writer.+write_digits.Given as goal
 
 abbrev pub decreases-write_digits : goal.decreases-write_digits
 decreases-write_digits l = l.k
