@@ -6,7 +6,7 @@ use Prim.Native.Nat.{ℕ, zero, suc, ◌+◌, ◌-◌, ◌≤◌, ◌<◌}
 use native.Mathlib.Omega.{arith}
 use native.Mathlib.Numerals.{add-one}
 use lib.Dec.{ltb}
-use lib.ListN.{length, take, drop, get_or, set, replicate, length-replicate, length-set}
+use lib.ListN.{length, take, get_or, set, replicate, length-replicate, length-set}
 use lib.Seq.{take-suc-set, take-length}
 use borrow.Author.Tests.{lt-ltb}
 use Rattle.file.specs.Lists.{all_of, count_from, up_to}
@@ -81,19 +81,22 @@ pub all_below : (n : ℕ) → all_of (λ i. ltb i n) (up_to n) ≡ true
 all_below n = at_all (λ i. ltb i n) (up_to n) 0 (λ i h. let l : i < n = omega (arith, length-count_from n 0) in let z : 0 + i ≡ i = omega arith in rw (count_at n 0 i l, z) (lt-ltb i n l))
 
 module _ (file order : List ℕ) (n : ℕ) (e : order ≡ up_to 512) (m : n ≡ count_of file) (good : check_file file ≡ Ok tt) where
-  pub few : n ≤ 512
+  few : n ≤ 512
   few = omega (arith, m, (accepted file good).many)
 
-  numbers : take (n - 0) (drop 0 order) ≡ up_to n
-  numbers = let z : n - 0 ≡ n = omega arith in rw (z, e) (take-up_to n 512 0 few)
+  pub within : n ≤ length order
+  within = rw e (omega (arith, few, length-count_from 512 0))
 
-  pub few_numbers : length (take (n - 0) (drop 0 order)) ≤ 512
+  numbers : take n order ≡ up_to n
+  numbers = rw e (take-up_to n 512 0 few)
+
+  pub few_numbers : length (take n order) ≤ 512
   few_numbers = rw numbers (omega (arith, few, length-count_from n 0))
 
-  pub numbers-below : all_of (λ i. ltb i (count_of file)) (take (n - 0) (drop 0 order)) ≡ true
+  pub numbers-below : all_of (λ i. ltb i (count_of file)) (take n order) ≡ true
   numbers-below = rw (numbers, ← m) (all_below n)
 
-  pub whole : (rule : LoadingRule) → insert_records (rule_of rule) file empty (take (n - 0) (drop 0 order)) ≡ load_by rule file
+  pub whole : (rule : LoadingRule) → insert_records (rule_of rule) file empty (take n order) ≡ load_by rule file
   unfolding load_by
   whole rule = rw (numbers, m, good) refl
 

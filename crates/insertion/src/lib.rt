@@ -13,13 +13,14 @@ use graph::{CircuitDag, NodeIndex};
 pub use inserting::{insert, insert_by};
 pub use loading::{load, load_by};
 
+// What an insertion answers, and the graph: a struct, and no Result, since the graph comes back in either case.
 #[derive(Clone, Copy)]
 pub struct Inserted {
     pub answer: Result<NodeIndex, Refusal>,
     pub graph: CircuitDag,
 }
 
-// What a load answers, and the graph.
+// What a load answers, and the graph, as for an insertion.
 #[derive(Clone, Copy)]
 pub struct Loaded {
     pub answer: Result<(), Refusal>,

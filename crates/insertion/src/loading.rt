@@ -30,10 +30,9 @@ pub(crate) fn file_order() -> [u16; 512]
     ensures { result ≡ up_to 512 }
 {
     let mut order = [0u16; 512];
-    let mut k: usize = 0;
-    while k < 512 {
-        order[k] = k as u16;
-        k += 1;
+    for (k, number) in order.iter_mut().enumerate() {
+        // A cast: k is below 512.
+        *number = k as u16;
     }
     order
 }
@@ -46,19 +45,15 @@ pub(crate) fn insert_in_order(rule: LoadingRule, file: &[u8], order: &[u16]) -> 
     ensures { result ≡ insert_records (rule_of rule) file.now empty order.now }
 {
     let x = registers::register_records(rule, file, order);
-    let registered = x.registered;
-    let entered = registered.answer;
-    if let Err(cause) = entered {
+    if let Err(cause) = x.registered.answer {
         return not_loaded(cause);
     }
-    let linked = x.linked;
-    let answer = linked.answer;
-    if let Err(cause) = answer {
+    if let Err(cause) = x.linked.answer {
         return not_loaded(cause);
     }
     Loaded {
         answer: Ok(()),
-        graph: assemble(list_nodes(file, order), linked, registered),
+        graph: assemble(list_nodes(file, order), x.linked, x.registered),
     }
 }
 
@@ -66,16 +61,11 @@ pub(crate) fn insert_in_order(rule: LoadingRule, file: &[u8], order: &[u16]) -> 
 pub fn load_by(rule: LoadingRule, file: &[u8]) -> Loaded
     ensures { result ≡ load_by rule file.now }
 {
-    let found = file::check_file(file);
-    match found {
-        Err(r) => not_loaded(r),
-        Ok(()) => {
-            let start: usize = 0;
-            let n = file::record_count(file);
-            let order = file_order();
-            insert_in_order(rule, file, &order[start..n])
-        }
+    if let Err(r) = file::check_file(file) {
+        return not_loaded(r);
     }
+    let order = file_order();
+    insert_in_order(rule, file, &order[..file::record_count(file)])
 }
 
 // The same by document 01's rule.
