@@ -1,7 +1,7 @@
 // "In loading, each record's part of the file goes to the insertion as it is." The links, the register maps and the nodes are each made in
 // a loop of their own, and the graph is put together once, at the end.
 ghost use Rattle.std.specs.Prelude.{◌≡◌, true, ◌≤◌, ltb, length, Ok};
-ghost use Rattle.file.specs.Lists.{all_of, up_to};
+ghost use Rattle.file.specs.Lists.{all_of};
 ghost use Rattle.file.specs.Pairs.{count_of, check_file};
 ghost use Rattle.graph.specs.Dag.{empty};
 ghost use Rattle.links.specs.Links.{rule_of};
@@ -23,18 +23,6 @@ pub(crate) fn not_loaded(r: Refusal) -> Loaded
         answer: Err(r),
         graph: CircuitDag::new(),
     }
-}
-
-// 0, 1, 2, ..: the records in file order.
-pub(crate) fn file_order() -> [u16; 512]
-    ensures { result ≡ up_to 512 }
-{
-    let mut order = [0u16; 512];
-    for (k, number) in order.iter_mut().enumerate() {
-        // A cast: k is below 512.
-        *number = k as u16;
-    }
-    order
 }
 
 // The records with these numbers of a file that passed the check, one after the other, on the empty graph. A refusal by
@@ -64,7 +52,7 @@ pub fn load_by(rule: LoadingRule, file: &[u8]) -> Loaded
     if let Err(r) = file::check_file(file) {
         return not_loaded(r);
     }
-    let order = file_order();
+    let order = queries::in_file_order();
     insert_in_order(rule, file, &order[..file::record_count(file)])
 }
 
