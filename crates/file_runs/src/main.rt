@@ -42,13 +42,19 @@ fn parse_all(file: &[u8]) -> Result<(), Refusal> {
     Ok(())
 }
 
-// Reading record i.
-fn read(file: &[u8], i: usize) -> Result<(), Refusal> {
-    file::locate_record(file, i).map(|_| ())
+// What is tried with a file: parsing all its records, or reading one.
+#[derive(Clone, Copy)]
+enum Trial {
+    Parse,
+    Read(usize),
 }
 
-// A slot for each answer on files of seven records: 0 for acceptance, else 8 times the number plus the pair or record, 7 where
-// there is none.
+// How often each answer came, on files of seven records: slot 0 for acceptance, else 8 times the number plus the pair or
+// record, 7 where there is none. A table, since a map would need a heap.
+#[derive(Drop)]
+struct Counts([u32; 104]);
+
+// The slot of an answer.
 fn slot(answer: Result<(), Refusal>) -> usize
     ensures { result < 104 }
 {
@@ -59,6 +65,41 @@ fn slot(answer: Result<(), Refusal>) -> usize
             let value = file::refusal_value(r).map_or(7, |i| i % 8);
             (number * 8 + value) % 104
         }
+    }
+}
+
+impl Counts {
+    // Tries a file, and counts its answer.
+    fn count(&mut self, file: &[u8], trial: Trial) {
+        let answer = match trial {
+            Trial::Parse => parse_all(file),
+            Trial::Read(i) => file::locate_record(file, i).map(|_| ()),
+        };
+        let k = slot(answer);
+        self.0[k] = self.0[k].saturating_add(1);
+    }
+
+    // Tries the good file with every other byte at a place.
+    fn count_changes_at(&mut self, at: usize, trial: Trial)
+        requires { at < 141 }
+    {
+        let mut file = GOOD;
+        for b in 0..=255u8 {
+            if b != GOOD[at] {
+                file[at] = b;
+                self.count(&file, trial);
+            }
+        }
+    }
+
+    fn print(&self, rt: &impl Print) -> io::Result<()> {
+        for (k, times) in self.0.iter().enumerate() {
+            if *times != 0 {
+                print_answer(rt, k / 8, k % 8)?;
+                println!(rt; ": {times}")?;
+            }
+        }
+        Ok(())
     }
 }
 
@@ -74,174 +115,124 @@ fn print_answer(rt: &impl Print, number: usize, at: usize) -> io::Result<()> {
     Ok(())
 }
 
-fn print_counts(rt: &impl Print, counts: [u32; 104]) -> io::Result<()> {
-    for k in 0..104 {
-        let times = counts[k];
-        if times != 0 {
-            print_answer(rt, k / 8, k % 8)?;
-            println!(rt; ": {times}")?;
-        }
-    }
-    Ok(())
-}
-
-// Adds one to a count; the runs stay far below its width.
-fn count_one(counts: &mut [u32; 104], k: usize)
-    requires { k < 104 }
-{
-    let old = counts[k];
-    if old < 1000000 {
-        counts[k] = old + 1;
-    }
-}
-
-// The slot of a file's answer: parsed, or record i read.
-fn answer_of(file: &[u8], parsed: bool, i: usize) -> usize
-    ensures { result < 104 }
-{
-    if parsed {
-        return slot(parse_all(file));
-    }
-    slot(read(file, i))
-}
-
-fn count_prefixes(parsed: bool, i: usize) -> [u32; 104] {
-    let file = GOOD;
-    let mut counts = [0u32; 104];
-    let start: usize = 0;
+// Every prefix of the good file.
+fn count_prefixes(trial: Trial) -> Counts {
+    let mut counts = Counts([0; 104]);
     for n in 0..=141 {
-        count_one(&mut counts, answer_of(&file[start..n], parsed, i));
+        counts.count(&GOOD[..n], trial);
     }
     counts
 }
 
-// The good file with byte b at a place, where that is another byte.
-fn count_change(at: usize, b: u8, parsed: bool, counts: &mut [u32; 104])
-    requires { at < 141 }
-{
-    let mut file = GOOD;
-    if file[at] != b {
-        file[at] = b;
-        count_one(counts, answer_of(&file, parsed, 6));
-    }
-}
-
-fn count_changes(parsed: bool) -> [u32; 104] {
-    let mut counts = [0u32; 104];
-    for k in 0..36096 {
-        count_change(k / 256, (k % 256) as u8, parsed, &mut counts);
+// Every change of one byte.
+fn count_changes(trial: Trial) -> Counts {
+    let mut counts = Counts([0; 104]);
+    for at in 0..141 {
+        counts.count_changes_at(at, trial);
     }
     counts
 }
 
 // A file of n records of 14 zero bytes in a larger array: the header and pair k, then zeros.
-fn zero_records(n: usize) -> [u8; 9237]
+fn zero_records(n: u16) -> [u8; 9237]
     requires { n ≤ 513 }
 {
-    let mut file = [0u8; 9237];
-    writing::put_u16(&mut file, 0, n as u16);
+    let mut file = [0; 9237];
+    writing::put_u16(&mut file, 0, n);
     for k in 0..n {
-        let offset = 2 + 4 * n + 14 * k;
-        writing::put_u16(&mut file, 2 + 4 * k, offset as u16);
-        writing::put_u16(&mut file, 4 + 4 * k, 14);
+        let pair = usize::from(2 + 4 * k);
+        writing::put_u16(&mut file, pair, 2 + 4 * n + 14 * k);
+        writing::put_u16(&mut file, pair + 2, 14);
     }
     file
 }
 
 // A file of one record in a larger array: its length, count byte c, then the entries (1, 0), (1, 1), .. up to n of them.
-fn entry_list(c: u8, n: usize, length: u8) -> [u8; 99]
+fn entry_list(c: u8, n: u8, length: u8) -> [u8; 99]
     requires { n ≤ 26 }
 {
-    let mut file = [0u8; 99];
+    let mut file = [0; 99];
     file[0] = 1;
     file[2] = 6;
     file[4] = length;
     file[17] = 3;
     file[20] = c;
     for k in 0..n {
-        file[21 + 3 * k] = 1;
-        file[22 + 3 * k] = k as u8;
+        file[usize::from(21 + 3 * k)] = 1;
+        file[usize::from(22 + 3 * k)] = k;
     }
     file
 }
 
 // One line: what it is, then the answer to the first n bytes.
-fn print_limit(rt: &impl Print, title: &[u8], bytes: &[u8], n: usize) -> io::Result<()> {
+fn print_limit(rt: &impl Print, title: &str, bytes: &[u8], n: usize) -> io::Result<()> {
     let Some(file) = bytes.get(..n) else {
         return Ok(());
     };
-    rt.write_all(title)?;
     match parse_all(file) {
-        Ok(()) => println!(rt; ": accepted"),
-        Err(r) => println!(rt; ": {r}"),
+        Ok(()) => println!(rt; "{title}: accepted"),
+        Err(r) => println!(rt; "{title}: {r}"),
     }
 }
 
 fn print_limits(rt: &impl Print) -> io::Result<()> {
     println!(rt; "limits")?;
     let zeros = [0u8; 3];
-    print_limit(rt, b"no byte", &zeros, 0)?;
-    print_limit(rt, b"one byte", &zeros, 1)?;
-    print_limit(rt, b"no record", &zeros, 2)?;
-    print_limit(rt, b"no record and a byte", &zeros, 3)?;
+    print_limit(rt, "no byte", &zeros, 0)?;
+    print_limit(rt, "one byte", &zeros, 1)?;
+    print_limit(rt, "no record", &zeros, 2)?;
+    print_limit(rt, "no record and a byte", &zeros, 3)?;
     let full = zero_records(512);
-    print_limit(rt, b"512 records", &full, 9218)?;
-    print_limit(rt, b"512 records, one byte less", &full, 9217)?;
-    print_limit(rt, b"512 records, one byte more", &full, 9219)?;
-    print_limit(rt, b"512 in the header alone", &full, 2)?;
+    print_limit(rt, "512 records", &full, 9218)?;
+    print_limit(rt, "512 records, one byte less", &full, 9217)?;
+    print_limit(rt, "512 records, one byte more", &full, 9219)?;
+    print_limit(rt, "512 in the header alone", &full, 2)?;
     let over = zero_records(513);
-    print_limit(rt, b"513 in the header alone", &over, 2)?;
-    print_limit(rt, b"513 records", &over, 9236)?;
+    print_limit(rt, "513 in the header alone", &over, 2)?;
+    print_limit(rt, "513 records", &over, 9236)?;
     let most = [255u8; 2];
-    print_limit(rt, b"65535 in the header alone", &most, 2)
-}
-
-// A byte behind a space.
-fn print_byte(rt: &impl Print, b: u8) -> io::Result<()> {
-    print!(rt; " {b}")
+    print_limit(rt, "65535 in the header alone", &most, 2)
 }
 
 // A record's bytes, as the reader hands them back; none where the record is absent.
 fn print_record(rt: &impl Print, file: &[u8], i: usize) -> io::Result<()> {
-    let part = read_bytes(file, i);
     print!(rt; "record {i}:")?;
-    for k in 0..part.len() {
-        print_byte(rt, part[k])?;
+    for b in read_bytes(file, i) {
+        print!(rt; " {b}")?;
     }
     println!(rt)
 }
 
 // Every record of the good file, and the one after the last.
 fn print_records(rt: &impl Print) -> io::Result<()> {
-    let file = GOOD;
     for i in 0..8 {
-        print_record(rt, &file, i)?;
+        print_record(rt, &GOOD, i)?;
     }
     Ok(())
 }
 
 // One line: a count byte, how many entries there are, what else is to say, and the answer to a record of such a length.
-fn print_list(rt: &impl Print, c: u8, n: usize, length: u8, more: &[u8]) -> io::Result<()>
+fn print_list(rt: &impl Print, c: u8, n: u8, length: u8, more: &str) -> io::Result<()>
     requires { n ≤ 26 }
 {
     print!(rt; "{c} and {n}")?;
     let file = entry_list(c, n, length);
-    print_limit(rt, more, &file, 6 + length as usize)
+    print_limit(rt, more, &file, 6 + usize::from(length))
 }
 
 // The same at the length that fits the entries.
-fn print_fitting(rt: &impl Print, c: u8, n: usize) -> io::Result<()>
+fn print_fitting(rt: &impl Print, c: u8, n: u8) -> io::Result<()>
     requires { n ≤ 26 }
 {
-    print_list(rt, c, n, (15 + 3 * n) as u8, b"")
+    print_list(rt, c, n, 15 + 3 * n, "")
 }
 
 // .. and of as many entries as the count byte says, one byte off that length.
 fn print_off(rt: &impl Print, c: u8) -> io::Result<()>
     requires { c ≤ 26 }
 {
-    print_list(rt, c, c as usize, 14 + 3 * c, b", one byte less")?;
-    print_list(rt, c, c as usize, 16 + 3 * c, b", one byte more")
+    print_list(rt, c, c, 14 + 3 * c, ", one byte less")?;
+    print_list(rt, c, c, 16 + 3 * c, ", one byte more")
 }
 
 // Register lists about their limit, and about the one that K3 raised: the count byte and the entries.
@@ -268,132 +259,124 @@ fn print_lists(rt: &impl Print) -> io::Result<()> {
     print_off(rt, 25)?;
     let mut twice = entry_list(24, 24, 87);
     twice[91] = 22;
-    print_limit(rt, b"24 and 24, the last two the same", &twice, 93)
+    print_limit(rt, "24 and 24, the last two the same", &twice, 93)
 }
 
-// A file of two records in a larger array, all zeros but its header and pairs.
-fn two_parts(first: u16, first_length: u16, second: u16, second_length: u16) -> [u8; 131070] {
-    let mut file = [0u8; 131070];
+// A file of two records in a larger array, all zeros but its header and pairs, each an offset and a length.
+fn two_parts(first: (u16, u16), second: (u16, u16)) -> [u8; 131070] {
+    let mut file = [0; 131070];
     file[0] = 2;
-    writing::put_u16(&mut file, 2, first);
-    writing::put_u16(&mut file, 4, first_length);
-    writing::put_u16(&mut file, 6, second);
-    writing::put_u16(&mut file, 8, second_length);
+    writing::put_u16(&mut file, 2, first.0);
+    writing::put_u16(&mut file, 4, first.1);
+    writing::put_u16(&mut file, 6, second.0);
+    writing::put_u16(&mut file, 8, second.1);
     file
 }
 
 // Where the reader finds record i of a file.
 fn print_place(rt: &impl Print, file: &[u8], i: usize) -> io::Result<()> {
-    print!(rt; "  record {i}: ")?;
-    let place = file::locate_record(file, i);
-    match place {
+    match file::locate_record(file, i) {
         Ok(Place { offset, length }) => {
-            print!(rt; "{length} bytes from {offset} on")?;
+            println!(rt; "  record {i}: {length} bytes from {offset} on")
         }
-        Err(r) => print!(rt; "{r}")?,
+        Err(r) => println!(rt; "  record {i}: {r}"),
     }
-    println!(rt)
 }
 
 // The answer to the first n bytes of a file of two records, and where the reader finds them.
 fn print_two(
     rt: &impl Print,
-    title: &[u8],
-    first: u16,
-    first_length: u16,
-    second: u16,
-    second_length: u16,
+    title: &str,
+    first: (u16, u16),
+    second: (u16, u16),
     n: usize,
 ) -> io::Result<()> {
-    let bytes = two_parts(first, first_length, second, second_length);
-    let start: usize = 0;
-    if 131070 < n {
+    let bytes = two_parts(first, second);
+    let Some(file) = bytes.get(..n) else {
         return Ok(());
-    }
-    print_limit(rt, title, &bytes, n)?;
-    print_place(rt, &bytes[start..n], 0)?;
-    print_place(rt, &bytes[start..n], 1)
+    };
+    print_limit(rt, title, file, n)?;
+    print_place(rt, file, 0)?;
+    print_place(rt, file, 1)
 }
 
 // K1: "the first offset is at least 2 + 4n, each later one at least the end of the previous part, and the last part ends at or before the file's end".
 fn print_slack(rt: &impl Print) -> io::Result<()> {
     println!(rt; "slack")?;
-    print_two(rt, b"none", 10, 14, 24, 14, 38)?;
-    print_two(rt, b"before the first part", 11, 14, 25, 14, 39)?;
-    print_two(rt, b"between the parts", 10, 14, 29, 14, 43)?;
-    print_two(rt, b"behind the last part", 10, 14, 24, 14, 39)?;
-    print_two(rt, b"before, between and behind", 13, 14, 32, 14, 131070)
+    print_two(rt, "none", (10, 14), (24, 14), 38)?;
+    print_two(rt, "before the first part", (11, 14), (25, 14), 39)?;
+    print_two(rt, "between the parts", (10, 14), (29, 14), 43)?;
+    print_two(rt, "behind the last part", (10, 14), (24, 14), 39)?;
+    print_two(rt, "before, between and behind", (13, 14), (32, 14), 131070)
 }
 
 // Where that is broken, and parts of length 0.
 fn print_breaches(rt: &impl Print) -> io::Result<()> {
-    print_two(rt, b"the first part in the table", 9, 14, 24, 14, 38)?;
-    print_two(rt, b"the second part in the first", 10, 14, 23, 14, 38)?;
-    print_two(rt, b"the second part before the first", 24, 14, 10, 14, 38)?;
-    print_two(rt, b"the first part past the end", 10, 200, 24, 14, 38)?;
-    print_two(rt, b"the last part past the end", 10, 14, 25, 14, 38)?;
-    print_two(rt, b"two parts at one offset", 10, 0, 10, 14, 24)?;
-    print_two(rt, b"the second part of no byte", 10, 14, 24, 0, 24)?;
-    print_two(rt, b"the second part behind the end", 10, 14, 25, 0, 24)
+    print_two(rt, "the first part in the table", (9, 14), (24, 14), 38)?;
+    print_two(rt, "the second part in the first", (10, 14), (23, 14), 38)?;
+    print_two(
+        rt,
+        "the second part before the first",
+        (24, 14),
+        (10, 14),
+        38,
+    )?;
+    print_two(rt, "the first part past the end", (10, 200), (24, 14), 38)?;
+    print_two(rt, "the last part past the end", (10, 14), (25, 14), 38)?;
+    print_two(rt, "two parts at one offset", (10, 0), (10, 14), 24)?;
+    print_two(rt, "the second part of no byte", (10, 14), (24, 0), 24)?;
+    print_two(rt, "the second part behind the end", (10, 14), (25, 0), 24)
 }
 
 // The same about and after 65,536 bytes: where the second part ends in the file, and a first one whose end has 17 bits.
 fn print_long(rt: &impl Print) -> io::Result<()> {
-    print_two(rt, b"ends at 65536 of 65549", 10, 14, 65522, 14, 65549)?;
-    print_two(rt, b"ends at 65549 of 65549", 10, 14, 65535, 14, 65549)?;
-    print_two(rt, b"ends at 65549 of 65548", 10, 14, 65535, 14, 65548)?;
+    print_two(rt, "ends at 65536 of 65549", (10, 14), (65522, 14), 65549)?;
+    print_two(rt, "ends at 65549 of 65549", (10, 14), (65535, 14), 65549)?;
+    print_two(rt, "ends at 65549 of 65548", (10, 14), (65535, 14), 65548)?;
     print_two(
         rt,
-        b"ends at 131070 of 131070",
-        10,
-        14,
-        65535,
-        65535,
+        "ends at 131070 of 131070",
+        (10, 14),
+        (65535, 65535),
         131070,
     )?;
     print_two(
         rt,
-        b"ends at 131070 of 131069",
-        10,
-        14,
-        65535,
-        65535,
+        "ends at 131070 of 131069",
+        (10, 14),
+        (65535, 65535),
         131069,
     )?;
     print_two(
         rt,
-        b"ends at 66000, next at 464",
-        65000,
-        1000,
-        464,
-        14,
+        "ends at 66000, next at 464",
+        (65000, 1000),
+        (464, 14),
         66000,
     )
 }
 
 // Every record of the file with slack, the one after the last, and the file cut off behind and in its last part.
 fn print_slack_records(rt: &impl Print) -> io::Result<()> {
-    let file = SLACK;
-    print_record(rt, &file, 0)?;
-    print_record(rt, &file, 1)?;
-    print_record(rt, &file, 2)?;
-    print_record(rt, &file, 3)?;
-    print_limit(rt, b"72 bytes of it", &file, 72)?;
-    print_limit(rt, b"68 bytes of it", &file, 68)?;
-    print_limit(rt, b"67 bytes of it", &file, 67)
+    for i in 0..4 {
+        print_record(rt, &SLACK, i)?;
+    }
+    print_limit(rt, "72 bytes of it", &SLACK, 72)?;
+    print_limit(rt, "68 bytes of it", &SLACK, 68)?;
+    print_limit(rt, "67 bytes of it", &SLACK, 67)
 }
 
 fn main(rt: HostRuntime) -> io::Result<()> {
     println!(rt; "prefixes, parsed")?;
-    print_counts(&rt, count_prefixes(true, 0))?;
+    count_prefixes(Trial::Parse).print(&rt)?;
     println!(rt; "prefixes, record 6 read")?;
-    print_counts(&rt, count_prefixes(false, 6))?;
+    count_prefixes(Trial::Read(6)).print(&rt)?;
     println!(rt; "prefixes, record 7 read")?;
-    print_counts(&rt, count_prefixes(false, 7))?;
+    count_prefixes(Trial::Read(7)).print(&rt)?;
     println!(rt; "changes of one byte, parsed")?;
-    print_counts(&rt, count_changes(true))?;
+    count_changes(Trial::Parse).print(&rt)?;
     println!(rt; "changes of one byte, record 6 read")?;
-    print_counts(&rt, count_changes(false))?;
+    count_changes(Trial::Read(6)).print(&rt)?;
     print_limits(&rt)?;
     print_lists(&rt)?;
     print_records(&rt)?;
