@@ -53,7 +53,7 @@ impl NodeLists {
         put_commuting(&mut self.commuting, part, v);
     }
 
-    // One insertion more at this end, and its place: k - 1 for the k-th at the back, -k at the front.
+    // One insertion more at this end, and its place: k - 1 for the k-th at the back, -k at the front. Casts: no end has more than 512.
     fn take_place(&mut self, front: bool) -> i16
         requires { (self.old.backs < 512) × (self.old.fronts < 512) }
         ensures place { result ≡ place_after front (cond front self.old.fronts self.old.backs) }

@@ -203,10 +203,10 @@ fn fresh_entry(rule: LoadingRule, near: &WorkingEnd, far: &WorkingEnd, v: Node) 
 }
 
 // How many qubits a mask has.
-fn qubit_count(mask: u64) -> u32
+fn qubit_count(mask: u64) -> usize
     ensures { result ≡ length (qubits mask) }
 {
-    u64::count_ones(mask)
+    u64::count_ones(mask) as usize
 }
 
 // The most edges that a record with these qubits adds: the count of a Set's qubits bounds them.
@@ -216,7 +216,7 @@ fn edge_bound(qubits: InvolvedQubits) -> usize
     match qubits {
         InvolvedQubits::None => 0,
         InvolvedQubits::All => 64,
-        InvolvedQubits::Set(mask) => qubit_count(mask) as usize,
+        InvolvedQubits::Set(mask) => qubit_count(mask),
     }
 }
 

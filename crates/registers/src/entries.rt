@@ -2,7 +2,7 @@
 // rules are in specs/Registers.antt, what the methods answer in specs/RegisterMaps.antt.
 ghost use Rattle.std.specs.Prelude.{◌≡◌, false, not, ◌<◌, ◌≤◌, IsTrue, ◌↔◌, IfOk, MatchResult};
 ghost use Rattle.file.specs.Records.{front};
-ghost use Rattle.graph.specs.Dag.{entries_of};
+ghost use Rattle.graph.specs.Dag.{entries_of, no_registers};
 ghost use Rattle.file.specs.declared.InvolvedClassical.TheVariants.{Set};
 ghost use Rattle.registers.specs.Registers.{has_key, put, registers_by, registers_after, maps_after, with_entries};
 ghost use Rattle.registers.specs.RegisterMaps.{keyed, Fits, StandsAt, Found, Becomes, BothBecome, EndsBecome, Marked, Standing, put_all};
@@ -52,6 +52,13 @@ fn hint_cell(key: RegisterKey) -> usize
 }
 
 impl RegisterMap {
+    // A map without entries.
+    pub(crate) fn new() -> Self
+        ensures { result.entries ≡ no_registers }
+    {
+        RegisterMap::of(graph::no_registers())
+    }
+
     // A map with these entries, and no guesses.
     pub(crate) fn of(entries: Registers) -> Self
         requires { Fits entries }
@@ -174,6 +181,7 @@ impl RegisterMap {
     }
 }
 
+// near and far stand as two parameters, as the two ends do in crate links.
 // A Set of c keys: each becomes v in the near map, and in the far map too if it was absent in the near one.
 fn set_keys(
     part: &[u8],

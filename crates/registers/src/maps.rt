@@ -53,8 +53,8 @@ fn enter_records(file: &[u8], order: &[u16]) -> Registered
     requires { length order.now ≤ 512 }
     ensures { result ≡ enter_records file.now order.now }
 {
-    let mut first = RegisterMap::of(graph::no_registers());
-    let mut last = RegisterMap::of(graph::no_registers());
+    let mut first = RegisterMap::new();
+    let mut last = RegisterMap::new();
     for (k, i) in order.iter().enumerate() {
         let i = usize::from(*i);
         let part = file::part_of(file, i);
@@ -62,6 +62,7 @@ fn enter_records(file: &[u8], order: &[u16]) -> Registered
         if let InvolvedClassical::None = file::involved_classical(part) {
             continue;
         }
+        // A cast: the links accept at most 512 records.
         let v = NodeIndex(k as u16);
         if let Err(NoRoom) = enter_record(part, v, &mut first, &mut last) {
             return maps_stopped(k, Refusal::TooManyRegisters(i));

@@ -1,17 +1,10 @@
 use Rattle.std.proofs.Common.{refl, ap, ◌∙◌, arith}
 use Rattle.file.specs.Pairs.{record_at}
-use Rattle.registers.proofs.RegisterLaws.{fits_none}
 use Rattle.registers.proofs.MapLaws.{nothing, refused, again, finish}
 use Rattle.registers.proofs.maps.enter_records.Goals as goal
 
-pub of-first-requires : goal.of-first-requires
-of-first-requires c = rw c.no_registers.ensures fits_none
-
-pub of-last-requires : goal.of-last-requires
-of-last-requires c = rw c.no_registers-2.ensures fits_none
-
 pub loop-k-init : goal.loop-k-init
-loop-k-init c = rw (c.of-first.ensures, c.no_registers.ensures, c.of-last.ensures, c.no_registers-2.ensures) refl
+loop-k-init c = rw (c.new-first.ensures, c.new-last.ensures) refl
 
 pub loop-k-preserved-in-None : goal.loop-k-preserved-in-None
 loop-k-preserved-in-None c =
