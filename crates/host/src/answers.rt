@@ -1,4 +1,5 @@
-// Each answer of the crates below as two numbers.
+// Each answer of the crates below as two numbers, for C has no Result and no Option: 65535 is none. The conversions of a
+// Result differ in what an accepted call found; a generic one would need a trait with the same five cases.
 ghost use Rattle.std.specs.Prelude.{◌≡◌};
 ghost use Rattle.host.specs.Answers.{accepts, refuses, no_node, of_count, of_inserted, of_loaded, of_step, of_place, of_got, of_operation, no_operation};
 
