@@ -3,8 +3,8 @@ ghost use Rattle.queries.specs.Marks.{EndsBelow, in_turn};
 
 use graph::CircuitDag;
 
-// Arc i leads from node far[i] to node near[i], both below 512: along the edges, or against them. It lends the graph's
-// arrays, of which the first count entries stand: a slice would be measured again at each access.
+// Arc i leads from node far[i] to node near[i], both below 512: along the edges, or against them. The arrays are the
+// graph's, of which the first count entries stand.
 #[derive(Clone, Copy)]
 pub struct Arcs<'a> {
     pub near: &'a [u16; 2048],

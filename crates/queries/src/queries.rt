@@ -25,8 +25,8 @@ fn listed(list: &[u16]) -> [bool; 512]
     r
 }
 
-// The near ends of the arcs whose far end is not skipped. Like the passes below it goes over indices: both ends lie in
-// arrays of which the first count entries stand, and cutting them first would measure each twice.
+// The near ends of the arcs whose far end is not skipped. Like the passes below it goes over indices: two arrays cut to the
+// count and zipped would say no more, and a pass down needs the index.
 fn neighbours(skip: &[bool; 512], arcs: &Arcs) -> [bool; 512]
     ensures { Neighbours skip.now arcs.now.near.now arcs.now.far.now arcs.now.count result }
 {
@@ -87,8 +87,8 @@ fn rises(from: u16, to: u16, last: u16) -> bool
     (from < to) & (last <= to)
 }
 
-// Does every edge lead to a larger number, and do these ascend along the list? So it is after insertions at the back alone. No branch on an
-// edge, so that the compiler takes many at a time.
+// Does every edge lead to a larger number, and do these ascend along the list? So it is after insertions at the back
+// alone. No branch on an edge, so that the compiler takes many at a time.
 fn is_ordered(arcs: &Arcs) -> bool
     ensures { result ≡ true → Ordered arcs.now.near.now arcs.now.far.now arcs.now.count }
 {

@@ -2,17 +2,16 @@
 use mathlib.Core.Path.{◌≡◌, refl, sym, ◌∙◌, ap}
 use mathlib.Core.Bool.{Bool, true, false, cond, not, ◌&&◌, ◌||◌}
 use mathlib.Core.Logic.{◌⊎◌, inl, inr, ⊎_elim}
-use mathlib.Core.List.{List, [], ◌∷◌, ◌++◌, append_assoc, append-nil}
+use mathlib.Core.List.{List, [], ◌∷◌}
 use Prim.Native.Nat.{ℕ, zero, suc, ◌+◌, ◌≤◌, ◌<◌}
 use native.Mathlib.Omega.{arith}
-use native.Mathlib.Numerals.{add-one}
 use native.Mathlib.Nat.{zero-add}
 use native.Mathlib.Decide.{dec_lt, ℕ_discrete}
 use lib.Dec.{eqb}
-use lib.ListN.{length, get_or, set, take, drop, replicate, length-set, length-replicate, take-append-drop, get_or-eq_default}
-use lib.Seq.{get_or-set_same, get_or-set_other, drop-cons, drop-length, take-suc-set, drop-set-lt, drop-drop, ext_get_or}
+use lib.ListN.{length, get_or, set, replicate, length-set, length-replicate, get_or-eq_default}
+use lib.Seq.{get_or-set_same, get_or-set_other, ext_get_or}
 use borrow.Author.Tests.{eq-eqb, ne_eqb}
-use Rattle.file.specs.Lists.{any_of, keep, cons_if, is_empty, onto, member, members, marked_from, count_from}
+use Rattle.file.specs.Lists.{any_of, keep, cons_if, is_empty, member, members, marked_from, count_from}
 use Rattle.graph.specs.declared.CircuitDag.{CircuitDag}
 use Rattle.graph.specs.Dag.{size, has_edge}
 use Rattle.graph.specs.Soundness.{sound}
@@ -182,85 +181,6 @@ module _ (from to : List ℕ) (m : ℕ) (num : List ℕ) (old : List Bool) where
 
   pub taking_done : {found : List Bool} {i : ℕ} → Taking found i → m ≤ i → Freed from to m num old found
   taking_done {i = i} I le = let z : i ≡ m = omega (arith, I.low) in rw z at I.so_far
-
--- ---- the members, counted and written
-
-marked_step : (m : List Bool) (i : ℕ) (b : Bool) → i < length m → get_or m i false ≡ b → marked_from i (drop i m) ≡ cons_if b i (marked_from (i + 1) (drop (i + 1) m))
-unfolding marked_from
-marked_step m i b h e = rw (drop-cons m i false h, e, add-one) refl
-
-marked_none : (m : List Bool) (i : ℕ) → length m ≡ i → marked_from i (drop i m) ≡ []
-unfolding marked_from
-marked_none m i h = rw (← h, drop-length) refl
-
-module _ (m : List Bool) where
-  pub record Counting (k i : ℕ) : Type 0 where
-    pub low : i ≤ 512
-    pub size : length m ≡ 512
-    pub few : k ≤ i
-    pub count : k + length (marked_from i (drop i m)) ≡ length (members m)
-
-  pub counting_begin : length m ≡ 512 → Counting 0 0
-  counting_begin h = record { low = omega arith; size = h; few = omega arith; count = zero-add _ }
-
-  module _ {k i : ℕ} (I : Counting k i) (h : i < 512) where
-    pub counting_more : get_or m i false ≡ true → Counting (k + 1) (i + 1)
-    counting_more e = let s = marked_step m i true (omega (arith, I.size)) e in
-        record { low = omega arith; size = I.size; few = omega (arith, I.few); count = omega (arith, rw s at I.count) }
-
-    pub counting_past : get_or m i false ≡ false → Counting k (i + 1)
-    counting_past e = let s = marked_step m i false (omega (arith, I.size)) e in
-        record { low = omega arith; size = I.size; few = omega (arith, I.few); count = rw s at I.count }
-
-  pub counting_done : {k i : ℕ} → Counting k i → 512 ≤ i → k ≡ length (members m)
-  counting_done {k} {i} I le = let n = marked_none m i (omega (arith, I.size, I.low)) in omega (arith, rw n at I.count)
-
-module _ (m : List Bool) (out₀ : List ℕ) where
-  -- k of the members are written, those below i; the others are still to come
-  pub record Putting (out : List ℕ) (k i : ℕ) : Type 0 where
-    pub low : i ≤ 512
-    pub few : k ≤ i
-    pub size : length m ≡ 512
-    pub long : length out ≡ length out₀
-    pub room : length (members m) ≤ length out₀
-    pub count : k + length (marked_from i (drop i m)) ≡ length (members m)
-    pub done : take k out ++ marked_from i (drop i m) ≡ members m
-    pub kept : drop k out ≡ drop k out₀
-
-  pub putting_begin : length m ≡ 512 → length (members m) ≤ length out₀ → Putting out₀ 0 0
-  putting_begin h r = record { low = omega arith; few = omega arith; size = h; long = refl; room = r; count = zero-add _; done = refl; kept = refl }
-
-  module _ {out : List ℕ} {k i : ℕ} (v : Putting out k i) (more : i < 512) where
-    pub putting_past : get_or m i false ≡ false → Putting out k (i + 1)
-    putting_past e =
-        let s = marked_step m i false (omega (arith, v.size)) e in
-        record { low = omega arith; few = omega (arith, v.few); size = v.size; long = v.long; room = v.room; count = rw s at v.count; done = rw s at v.done; kept = v.kept }
-
-    pub put_room : get_or m i false ≡ true → k < length out
-    put_room e = let s = marked_step m i true (omega (arith, v.size)) e in omega (arith, v.long, v.room, rw s at v.count)
-
-    pub putting_more : get_or m i false ≡ true → Putting (set out k i) (k + 1) (i + 1)
-    putting_more e =
-        let s = marked_step m i true (omega (arith, v.size)) e in
-        let h = put_room e in
-        record {
-          low = omega arith;
-          few = omega (arith, v.few);
-          size = v.size;
-          long = rw length-set v.long;
-          room = v.room;
-          count = omega (arith, rw s at v.count);
-          done = rw (add-one k, take-suc-set out k i h, append_assoc) (rw s at v.done);
-          kept = rw (drop-set-lt (k + 1) out k i (omega arith), ← drop-drop 1 k out, ← drop-drop 1 k out₀, v.kept) refl;
-        }
-
-  pub putting_done : {out : List ℕ} {k i : ℕ} → Putting out k i → 512 ≤ i → out ≡ onto (members m) out₀
-  putting_done {out} {k} {i} v h =
-      let n = marked_none m i (omega (arith, v.size, v.low)) in
-      let c = rw n at v.count in
-      let k≡ : k ≡ length (members m) = omega (arith, c) in
-      let t : take k out ≡ members m = sym (append-nil (take k out)) ∙ (rw n at v.done) in
-      rw (← k≡, ← t, ← v.kept, take-append-drop) refl
 
 -- ---- sets and lists
 

@@ -19,7 +19,7 @@ fn raised(old: u16, before: u16) -> u16
 }
 
 // One pass along the edges, up or down the list: whether it changed a number. Like the passes below it goes over indices:
-// both ends lie in arrays of which the first count entries stand, and cutting them first would measure each twice.
+// two arrays cut to the count and zipped would say no more, and a pass down needs the index.
 fn sweep(arcs: &Arcs, up: bool, num: &mut [u16; 512]) -> bool
     ensures { Swept arcs.now.far.now arcs.now.near.now arcs.now.count num.old num.new result }
 {
