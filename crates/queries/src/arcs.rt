@@ -1,5 +1,5 @@
 // The edges of a graph as arcs, to be gone over in either direction.
-ghost use Rattle.queries.specs.Marks.{EndsBelow, in_turn};
+ghost use Rattle.queries.specs.Marks.{EndsBelow};
 
 use graph::CircuitDag;
 
@@ -41,18 +41,6 @@ impl<'a> Arcs<'a> {
             near: &g.edges.from,
             far: &g.edges.to,
             count: g.edges.count,
-        }
-    }
-
-    // The arc that comes i-th in a pass up or down the arcs. An enum of the two directions would say no more than the flag,
-    // and the next pass's direction is its negation.
-    pub fn in_turn(&self, i: usize, up: bool) -> usize
-        ensures { result ≡ in_turn i self.now.count up }
-    {
-        if up {
-            i
-        } else {
-            self.count.saturating_sub(i).saturating_sub(1)
         }
     }
 

@@ -3,7 +3,7 @@ ghost use Rattle.std.specs.Prelude.{◌≡◌, true, false, not, ◌&&◌, ◌�
 ghost use Rattle.std.specs.List.Sorted.{IsNonDecreasing};
 ghost use Rattle.file.specs.Lists.{members};
 ghost use Rattle.queries.specs.Marks.{no_node, every_node, Listed, Ordered, LeadsAbove, Neighbours};
-ghost use Rattle.queries.specs.Marks.{Carried, Swept, Closed, Waiting, FirstAt};
+ghost use Rattle.queries.specs.Marks.{Carried, in_turn, Swept, Closed, Waiting, FirstAt};
 ghost use Rattle.queries.specs.Queries.{answers, execution_blocked, blocking_predecessors, successors as successors_rule, new_front_layer};
 
 use crate::Arcs;
@@ -57,13 +57,22 @@ fn carry(mark: &mut [bool; 512], arcs: &Arcs, i: usize) -> bool
     new & !old
 }
 
+// The arc that comes i-th in a pass up or down the m arcs. An enum of the two directions would say no more than the flag,
+// and the next pass's direction is its negation.
+fn in_turn(i: usize, m: usize, up: bool) -> usize
+    requires { i < m }
+    ensures { result ≡ in_turn i m up }
+{
+    if up { i } else { m - (i + 1) }
+}
+
 // One pass, up or down the arcs. Did a mark come new?
 fn sweep(mark: &mut [bool; 512], arcs: &Arcs, up: bool) -> bool
     ensures { Swept arcs.now.near.now arcs.now.far.now arcs.now.count mark.old mark.new result }
 {
     let mut moved = false;
     for i in 0..arcs.count {
-        moved |= carry(mark, arcs, arcs.in_turn(i, up));
+        moved |= carry(mark, arcs, in_turn(i, arcs.count, up));
     }
     moved
 }

@@ -3,6 +3,7 @@ ghost use Rattle.std.specs.Prelude.{◌≡◌, true, false, cond, not, ◌&&◌,
 ghost use Rattle.file.specs.Lists.{members, onto, up_to};
 ghost use Rattle.graph.specs.Dag.{size};
 ghost use Rattle.graph.specs.Soundness.{sound};
+ghost use Rattle.queries.specs.Marks.{in_turn};
 ghost use Rattle.walk.specs.Blocks.{whole_walk, blocks, number_from, joined, start, next};
 ghost use Rattle.walk.specs.Numbering.{at, following, Swept, Settled, Begun, Zeroed, Counted, Reaching, Freed, free_after};
 
@@ -18,6 +19,15 @@ fn raised(old: u16, before: u16) -> u16
     old.max(before.saturating_add(1))
 }
 
+// The arc that comes i-th in a pass up or down the m arcs, as in the queries. One public function for both would have to
+// ask nothing of i: with saturating_sub for that, all blocks took up to an eighth longer.
+fn in_turn(i: usize, m: usize, up: bool) -> usize
+    requires { i < m }
+    ensures { result ≡ in_turn i m up }
+{
+    if up { i } else { m - (i + 1) }
+}
+
 // One pass along the edges, up or down the list: whether it changed a number. Like the passes below it goes over indices:
 // two arrays cut to the count and zipped would say no more, and a pass down needs the index.
 fn sweep(arcs: &Arcs, up: bool, num: &mut [u16; 512]) -> bool
@@ -25,7 +35,7 @@ fn sweep(arcs: &Arcs, up: bool, num: &mut [u16; 512]) -> bool
 {
     let mut changed = false;
     for i in 0..arcs.count {
-        let j = arcs.in_turn(i, up);
+        let j = in_turn(i, arcs.count, up);
         let t = usize::from(arcs.near[j]);
         let old = num[t];
         let new = raised(old, num[usize::from(arcs.far[j])]);
