@@ -18,6 +18,7 @@ pub(crate) struct NodeLists {
 
 impl NodeLists {
     // Those of the empty graph.
+    #[tactic(auto, unfolding(graph::specs::Dag::empty))]
     fn new() -> NodeLists
         ensures { result ≡ node_lists empty }
     {

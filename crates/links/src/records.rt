@@ -29,6 +29,7 @@ fn record_refusal(file: &[u8], i: usize, c: Refusal) -> Refusal
 }
 
 // The refusal of the record after k accepted ones.
+#[tactic(auto, unfolding(graph::specs::Dag::empty))]
 fn links_stopped(k: usize, r: Refusal) -> LinkedRecords
     ensures { result ≡ links_stopped k r }
 {
@@ -86,6 +87,7 @@ struct Links {
 }
 
 impl Links {
+    #[tactic(auto, unfolding(graph::specs::Dag::empty))]
     fn new() -> Links
         ensures edges { result.edges ≡ empty.edges }
         ensures ends { (result.first ≡ no_end) × (result.last ≡ no_end) }
