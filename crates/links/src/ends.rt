@@ -44,6 +44,7 @@ impl Model for WorkingEnd {
 
 impl WorkingEnd {
     // An end without nodes.
+    #[tactic(auto, using(crate::proofs::EndLaws::known_none))]
     pub(crate) fn new() -> WorkingEnd
         ensures { result ≡ no_end }
     {
