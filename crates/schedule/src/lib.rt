@@ -19,11 +19,8 @@ pub fn schedule_by(rule: LoadingRule, file: &[u8], buffer: &mut [u16]) -> Result
     ensures not_scheduled { (c : Refusal) → result ≡ Err c → NotScheduledBy rule file.now buffer.old c buffer.new }
 {
     let loaded = insertion::load_by(rule, file);
-    let answer = loaded.answer;
-    match answer {
-        Ok(()) => walk::whole_walk(loaded.graph, buffer),
-        Err(cause) => Err(cause),
-    }
+    loaded.answer?;
+    walk::whole_walk(loaded.graph, buffer)
 }
 
 // In document 01's way: the promise is of files with at most one all-qubit pulse where there are pulses at both ends.
