@@ -96,13 +96,6 @@ module _ (n : ℕ) (b₀ : List ℕ) where
     pub long : length b ≡ length b₀
     pub put : put_at (2 + 4 * k) (gate_pairs (n - k) (2 + 4 * n + 14 * k)) b ≡ put_at 2 (gate_pairs n (2 + 4 * n)) b₀
 
-  pub pairs_none : n ≤ 512 → 2 + 4 * n ≤ length b₀ → Pairing b₀ 0
-  pairs_none f r =
-      let x : 2 + 4 * 0 ≡ 2 = refl in
-      let y : n - 0 ≡ n = omega arith in
-      let z : 2 + 4 * n + 14 * 0 ≡ 2 + 4 * n = omega arith in
-      record { few = f; low = omega arith; room = r; long = refl; put = λ t. put_at (x t) (gate_pairs (y t) (z t)) b₀ }
-
   module _ (b : List ℕ) (k : ℕ) (P : Pairing b k) where
     pub pairs_one : k < n → (b1 b2 : List ℕ) → b1 ≡ put_if_fits (2 + 4 * k) (bytes_of 2 (2 + 4 * n + 14 * k)) b → b2 ≡ put_if_fits (4 + 4 * k) (bytes_of 2 14) b1
         → Pairing b2 (k + 1)
@@ -143,11 +136,6 @@ module _ {A : Type 0} (f : A → List ℕ) (l : List A) (b₀ : List ℕ) where
     pub room : 2 + 18 * length l ≤ length b₀
     pub long : length b ≡ length b₀
     pub put : put_at (2 + 4 * length l + 14 * k) (join_records (map f (drop k l))) b ≡ put_at (2 + 4 * length l) (join_records (map f l)) b₀
-
-  pub gates_none : length l ≤ 512 → 2 + 18 * length l ≤ length b₀ → Gating b₀ 0
-  gates_none d r =
-      let z : 2 + 4 * length l + 14 * 0 ≡ 2 + 4 * length l = omega arith in
-      record { few = d; room = r; long = refl; put = ap (λ (x : ℕ). put_at x (join_records (map f l)) b₀) z }
 
   module _ (b : List ℕ) (k : ℕ) (G : Gating b k) where
     pub gates_one : (d : A) → length (f (get_or l k d)) ≡ 14 → k < length l → (b1 : List ℕ)
