@@ -123,6 +123,7 @@ fn print_node(rt: &impl Print, g: CircuitDag, v: u16) -> io::Result<()> {
     print_query(rt, "blocked by:", c, &buffer)
 }
 
+// The cast keeps the value: v is below 512.
 fn print_nodes(rt: &impl Print, g: CircuitDag) -> io::Result<()> {
     for v in 0..g.nodes.count.min(512) {
         let nodes = &g.nodes;
@@ -180,9 +181,9 @@ fn marks_of(list: &[u8]) -> [bool; 512] {
 
 // The numbers of a list, as many as there is room for.
 fn numbers_of(list: &[u8]) -> [u16; 32] {
-    let mut numbers = [0u16; 32];
-    for i in 0..list.len().min(32) {
-        numbers[i] = u16::from(list[i]);
+    let mut numbers = [0; 32];
+    for (number, x) in numbers.iter_mut().zip(list) {
+        *number = u16::from(*x);
     }
     numbers
 }
