@@ -116,11 +116,6 @@ fn probe_schedules(rt: &impl Print, bytes: &[u8]) -> io::Result<()> {
     probe_schedule(rt, bytes, &mut [0; 512])
 }
 
-// A count of nodes as a node number, or the absent node where it is none; a graph's count is at most 512.
-fn node_number(count: usize) -> u16 {
-    u16::try_from(count).unwrap_or(65535)
-}
-
 // The graph of a circuit file, the empty one where it is refused, then the same with one back insertion too many, which is
 // not sound.
 fn probe_load(rt: &impl Print, bytes: &[u8]) -> io::Result<()> {
@@ -129,7 +124,8 @@ fn probe_load(rt: &impl Print, bytes: &[u8]) -> io::Result<()> {
     if let Err(r) = loaded.answer {
         println!(rt; "load {r}")?;
     }
-    probe(rt, g, node_number(g.nodes.count))?;
+    // A graph's count is at most 512.
+    probe(rt, g, u16::try_from(g.nodes.count).unwrap_or(65535))?;
     g.backs = if g.backs < 512 { g.backs + 1 } else { 0 };
     println!(rt; "not sound")?;
     probe(rt, g, 0)
