@@ -51,20 +51,10 @@ fn print_graph(rt: &impl Print, title: &str, dag: CircuitDag, v: usize) -> io::R
     )
 }
 
-// The outcome of the file in the first n bytes, and what one more record on its graph gives.
-fn print_load(
-    rt: &impl Print,
-    title: &str,
-    bytes: &[u8],
-    n: usize,
-    v: usize,
-    record: &[u8],
-) -> io::Result<()>
+// The outcome of a file, and what one more record on its graph gives.
+fn print_load(rt: &impl Print, title: &str, file: &[u8], v: usize, record: &[u8]) -> io::Result<()>
     requires { v < 512 }
 {
-    let Some(file) = bytes.get(..n) else {
-        return Ok(());
-    };
     let loaded = insertion::load(file);
     match loaded.answer {
         Ok(()) => {
@@ -124,14 +114,14 @@ fn print_list(
     requires { (first ≤ 256) × (c ≤ 25) }
 {
     let file = measured(length, first, c);
-    print_load(rt, title, &file, 42 + 3 * c, 1, record)
+    print_load(rt, title, &file[..42 + 3 * c], 1, record)
 }
 
 // A definition alone, and what the list of 24 keys of such a file gives in a single call on its graph.
 fn print_single(rt: &impl Print, title: &str, length: u16, file: &[u8]) -> io::Result<()> {
     let defined = definition(length);
     match file.get(27..114) {
-        Some(list) => print_load(rt, title, &defined, 23, 0, list),
+        Some(list) => print_load(rt, title, &defined, 0, list),
         None => Ok(()),
     }
 }
@@ -160,10 +150,18 @@ fn print_empty_set(rt: &impl Print) -> io::Result<()> {
         rt,
         "512 at the back, then an empty set: ",
         &back,
-        9218,
         511,
         &nothing,
     )
+}
+
+// 2,048 edges, and one more.
+fn print_layers(rt: &impl Print, gate: &[u8]) -> io::Result<()> {
+    let layers = gates(264, false, true);
+    match layers.get(..4754) {
+        Some(file) => print_load(rt, "33 layers of 8: ", file, 263, gate),
+        None => Ok(()),
+    }
 }
 
 fn main(rt: HostRuntime) -> io::Result<()> {
@@ -173,15 +171,14 @@ fn main(rt: HostRuntime) -> io::Result<()> {
     });
     let entry = [0u8, 0, 0, 0, 0, 0, 0, 0, 0, 0, 0, 3, 0, 0, 1, 2, 0, 0];
     let back = gates(512, false, false);
-    print_load(&rt, "512 at the back: ", &back, 9218, 511, &gate)?;
+    print_load(&rt, "512 at the back: ", &back, 511, &gate)?;
     let front = gates(512, true, false);
-    print_load(&rt, "512 at the front: ", &front, 9218, 511, &gate)?;
-    let layers = gates(264, false, true);
-    print_load(&rt, "33 layers of 8: ", &layers, 4754, 263, &gate)?;
+    print_load(&rt, "512 at the front: ", &front, 511, &gate)?;
+    print_layers(&rt, &gate)?;
     let most = definition(256);
-    print_load(&rt, "a definition of 256: ", &most, 23, 0, &entry)?;
+    print_load(&rt, "a definition of 256: ", &most, 0, &entry)?;
     let over = definition(257);
-    print_load(&rt, "a definition of 257: ", &over, 23, 0, &entry)?;
+    print_load(&rt, "a definition of 257: ", &over, 0, &entry)?;
     print_lists(&rt, &entry)?;
     print_empty_set(&rt)
 }
