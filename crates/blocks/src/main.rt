@@ -1,6 +1,7 @@
 // The blocks of a circuit file.
 #![tactic(auto)]
 
+// The programs that are this line stay, one for each input or way of loading that is run.
 fn main(rt: HostRuntime) {
     standard_io::print_blocks(&rt);
 }
