@@ -164,7 +164,8 @@ fn entry_list(c: u8, n: u8, length: u8) -> [u8; 99]
     file
 }
 
-// One line: what it is, then the answer to the first n bytes.
+// One line: what it is, then the answer to the first n bytes. The length stands beside: that a part such as `&full[..n]`
+// of an array that a call made is within it was tried in the callers, and not proved.
 fn print_limit(rt: &impl Print, title: &str, bytes: &[u8], n: usize) -> io::Result<()> {
     let Some(file) = bytes.get(..n) else {
         return Ok(());

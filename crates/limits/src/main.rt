@@ -78,9 +78,8 @@ fn definition(length: u16) -> [u8; 23] {
     file
 }
 
-// A file of a definition of name 1 and a list of c keys of that name, from index `first` on. The casts keep the values,
-// which is proved of these bounds; the loop writes three bytes a key at computed places, as the record has them.
-fn measured(length: u16, first: usize, c: usize) -> [u8; 117]
+// A file of a definition of name 1 and a list of c keys of that name, from index `first` on.
+fn measured(length: u16, first: u16, c: u8) -> [u8; 117]
     requires { (first ≤ 256) × (c ≤ 25) }
 {
     let mut file = [0; 117];
@@ -88,16 +87,17 @@ fn measured(length: u16, first: usize, c: usize) -> [u8; 117]
     file[2] = 10;
     file[4] = 17;
     file[6] = 27;
-    file[8] = (15 + 3 * c) as u8;
+    file[8] = 15 + 3 * c;
     file[11] = 1;
     file[21] = 4;
     file[24] = 1;
     writing::put_u16(&mut file, 25, length);
     file[38] = 3;
-    file[41] = c as u8;
+    file[41] = c;
     for k in 0..c {
-        file[42 + 3 * k] = 1;
-        writing::put_u16(&mut file, 43 + 3 * k, (first + k) as u16);
+        let key = usize::from(42 + 3 * k);
+        file[key] = 1;
+        writing::put_u16(&mut file, key + 1, first + u16::from(k));
     }
     file
 }
@@ -107,14 +107,14 @@ fn print_list(
     rt: &impl Print,
     title: &str,
     length: u16,
-    first: usize,
-    c: usize,
+    first: u16,
+    c: u8,
     record: &[u8],
 ) -> io::Result<()>
     requires { (first ≤ 256) × (c ≤ 25) }
 {
     let file = measured(length, first, c);
-    print_load(rt, title, &file[..42 + 3 * c], 1, record)
+    print_load(rt, title, &file[..usize::from(42 + 3 * c)], 1, record)
 }
 
 // A definition alone, and what the list of 24 keys of such a file gives in a single call on its graph.
