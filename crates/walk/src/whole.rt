@@ -20,7 +20,7 @@ fn raised(old: u16, before: u16) -> u16
 }
 
 // The arc that comes i-th in a pass up or down the m arcs, as in the queries. One public function for both would have to
-// ask nothing of i: with saturating_sub for that, all blocks took up to an eighth longer.
+// ask nothing of i: with `saturating_sub` for that, all blocks were found to take some hundredths longer.
 fn in_turn(i: usize, m: usize, up: bool) -> usize
     requires { i < m }
     ensures { result ≡ in_turn i m up }
