@@ -21,7 +21,8 @@ fn mask_of(layers: bool, k: usize) -> u64 {
     0x0101_0101_0101_0101 << j
 }
 
-// A file of n gates, of at most 512, at the start of the array.
+// A file of n gates, of at most 512, at the start of the array. front is the record's own bool; layers stays one, since a
+// closure that gives the mask would have to say that it takes every k.
 fn gates(n: usize, front: bool, layers: bool) -> [u8; 9218] {
     let mut gates = [Gate { front, mask: 0 }; 512];
     for (k, gate) in gates.iter_mut().enumerate() {

@@ -237,7 +237,8 @@ fn print_queries(
     print_answers(rt, g, NodeIndex(u16::from(v)), &done[..k], &line[..m])
 }
 
-// Each query is a node, the executed list, the layer and the walk's current nodes.
+// Each query is a node, the executed list, the layer and the walk's current nodes. A loop: what a query takes is known only
+// when its three lists have been cut.
 fn replay_queries(rt: &impl Print, g: CircuitDag, queries: &[u8]) -> io::Result<()> {
     let mut rest = queries;
     while let Some((v, lists)) = rest.split_first() {
@@ -251,6 +252,7 @@ fn replay_queries(rt: &impl Print, g: CircuitDag, queries: &[u8]) -> io::Result<
     Ok(())
 }
 
+// By the byte of the item that says which; as an enum it would be read from that byte by the same test.
 fn build(converted: bool, file: &[u8]) -> Loaded {
     if converted {
         return insertion::from_circuit(file);
@@ -273,6 +275,7 @@ fn replay_item(rt: &impl Print, item: &[u8]) -> io::Result<()> {
     replay_queries(rt, x.graph, queries)
 }
 
+// A loop over the items and no Files: an item that ends early is still replayed, as far as it goes.
 fn main(rt: HostRuntime) -> io::Result<()> {
     let mut input = [0; 65536];
     let n = standard_io::read_file(&rt, &mut input);
