@@ -65,7 +65,8 @@ pub fn last_parallel_block(g: CircuitDag, buffer: &mut [u16]) -> Result<usize, R
     answer_marked(g.last.block, buffer)
 }
 
-// The operation that an end's map has at a qubit. The source has a name for each end, as below; here is what they share.
+// The operation that an end's map has at a qubit. The source has a name for each end, as below; here is what they
+// share.
 fn at_qubit(end: End, q: Qubit) -> Option<NodeIndex>
     ensures { result ≡ operation_of (at_qubit end q.0) }
 {

@@ -18,8 +18,8 @@ fn smallest_member(number: &[u16], block: usize) -> NodeIndex
     }
 }
 
-// The smallest direct predecessor of v with the block's number; the arcs lead against the edges. It goes over indices: two
-// arrays cut to the count and zipped would say no more.
+// The smallest direct predecessor of v with the block's number; the arcs lead against the edges. It goes over indices:
+// two arrays cut to the count and zipped would say no more.
 fn smallest_predecessor(number: &[u16; 512], arcs: &Arcs, v: NodeIndex, block: usize) -> NodeIndex
     ensures { Smallest (Before number.now arcs.now.near.now arcs.now.far.now arcs.now.count v.0 block) result.0 }
 {
@@ -34,8 +34,8 @@ fn smallest_predecessor(number: &[u16; 512], arcs: &Arcs, v: NodeIndex, block: u
 }
 
 // The chain from v on, a node of the block, over the buffer's entries from index i on: each call is for a direct
-// predecessor, the block's number one lower. It lends the arcs on, so that a call takes little of the stack. The numbers
-// and the arcs are no struct: the check covers none with a field that itself holds references.
+// predecessor, the block's number one lower. It lends the arcs on, so that a call takes little of the stack. The
+// numbers and the arcs are no struct: the check covers none with a field that itself holds references.
 fn descend(
     number: &[u16; 512],
     arcs: &Arcs,
@@ -69,7 +69,8 @@ pub fn chain(dag: CircuitDag, buffer: &mut [u16]) -> Result<usize, Refusal>
     if count == 0 {
         return Ok(0);
     }
-    // A literal: a function that makes it for every crate would ask that the graph is sound, and a public one asks nothing.
+    // A literal: a function that makes it for every crate would ask that the graph is sound, and a public one asks
+    // nothing.
     let arcs = Arcs {
         near: &dag.edges.from,
         far: &dag.edges.to,

@@ -25,8 +25,8 @@ fn listed(list: &[u16]) -> [bool; 512]
     r
 }
 
-// The near ends of the arcs whose far end is not skipped. Like the passes below it goes over indices: two arrays cut to the
-// count and zipped would say no more, and a pass down needs the index.
+// The near ends of the arcs whose far end is not skipped. Like the passes below it goes over indices: two arrays cut to
+// the count and zipped would say no more, and a pass down needs the index.
 fn neighbours(skip: &[bool; 512], arcs: &Arcs) -> [bool; 512]
     ensures { Neighbours skip.now arcs.now.near.now arcs.now.far.now arcs.now.count result }
 {
@@ -57,8 +57,8 @@ fn carry(mark: &mut [bool; 512], arcs: &Arcs, i: usize) -> bool
     new & !old
 }
 
-// The arc that comes i-th in a pass up or down the m arcs. An enum of the two directions would say no more than the flag,
-// and the next pass's direction is its negation.
+// The arc that comes i-th in a pass up or down the m arcs. An enum of the two directions would say no more than the
+// flag, and the next pass's direction is its negation.
 fn in_turn(i: usize, m: usize, up: bool) -> usize
     requires { i < m }
     ensures { result ≡ in_turn i m up }

@@ -19,8 +19,8 @@ fn raised(old: u16, before: u16) -> u16
     old.max(before.saturating_add(1))
 }
 
-// The arc that comes i-th in a pass up or down the m arcs, as in the queries. One public function for both would have to
-// ask nothing of i: with `saturating_sub` for that, all blocks were found to take some hundredths longer.
+// The arc that comes i-th in a pass up or down the m arcs, as in the queries. One public function for both would have
+// to ask nothing of i: with `saturating_sub` for that, all blocks were found to take some hundredths longer.
 fn in_turn(i: usize, m: usize, up: bool) -> usize
     requires { i < m }
     ensures { result ≡ in_turn i m up }
@@ -28,8 +28,8 @@ fn in_turn(i: usize, m: usize, up: bool) -> usize
     if up { i } else { m - (i + 1) }
 }
 
-// One pass along the edges, up or down the list: whether it changed a number. Like the passes below it goes over indices:
-// two arrays cut to the count and zipped would say no more, and a pass down needs the index.
+// One pass along the edges, up or down the list: whether it changed a number. Like the passes below it goes over
+// indices: two arrays cut to the count and zipped would say no more, and a pass down needs the index.
 fn sweep(arcs: &Arcs, up: bool, num: &mut [u16; 512]) -> bool
     ensures { Swept arcs.now.far.now arcs.now.near.now arcs.now.count num.old num.new result }
 {
@@ -112,7 +112,8 @@ fn numbers_of(g: CircuitDag) -> [u16; 512]
     requires { sound g ≡ true }
     ensures { (v : ℕ) → v < size g → at result v ≡ number_from 0 (blocks g) v }
 {
-    // A literal: a function that makes it for every crate would ask that the graph is sound, and a public one asks nothing.
+    // A literal: a function that makes it for every crate would ask that the graph is sound, and a public one asks
+    // nothing.
     let arcs = Arcs {
         near: &g.edges.to,
         far: &g.edges.from,
