@@ -11,7 +11,7 @@ use Rattle.file.specs.Lists.{all_of, members}
 use Rattle.file.specs.Records.{front, good, qubits_of, record_of}
 use Rattle.file.specs.declared.Record.{Record}
 use Rattle.file.specs.declared.Refusal.{Refusal}
-use Rattle.file.specs.declared.Refusal.TheVariants.{Unsound, TooManyNodes, TooManyEdges, TooManyRegisters}
+use Rattle.file.specs.declared.Refusal.TheVariants.{TooManyNodes, TooManyEdges, TooManyRegisters}
 use Rattle.graph.specs.declared.NodeIndex.{NodeIndex}
 use Rattle.graph.specs.declared.CircuitDag.{CircuitDag}
 use Rattle.graph.specs.Dag.{Edge, Entry, node, size, edges_of, commuting_of, entries_of}
@@ -20,8 +20,7 @@ use Rattle.file.proofs.BoolLaws.{and_l, and_r}
 use Rattle.graph.proofs.SizeLaws.{DagSized}
 use Rattle.graph.proofs.SoundnessLaws.{Sound, sound_told, sound_clauses, all_left, all_right}
 use Rattle.links.specs.declared.LinkedRecords.{LinkedRecords}
-use Rattle.links.specs.Links.{FarRule, rule_of}
-use Rattle.links.specs.declared.LoadingRule.{LoadingRule}
+use Rattle.links.specs.Links.{FarRule}
 use Rattle.links.specs.Linking.{links_fit, links_stopped, link_record, links_kept, link_node}
 use Rattle.links.proofs.LinkingLaws.{when_done}
 use Rattle.registers.specs.declared.Registered.{Registered}
@@ -29,7 +28,7 @@ use Rattle.registers.specs.Registers.{maps_after, maps_pass, stored, maps_kept, 
 use Rattle.insertion.specs.declared.Inserted.{Inserted}
 use Rattle.insertion.specs.declared.nodes.NodeLists.{NodeLists}
 use Rattle.insertion.specs.Insertion.{commutes, grown}
-use Rattle.insertion.specs.Limits.{refused, edges_pass, insert_as, insert_by}
+use Rattle.insertion.specs.Limits.{refused, edges_pass, insert_as}
 use Rattle.insertion.specs.Parts.{node_lists, node_after, assembled}
 use Rattle.insertion.proofs.CaseLaws.{nodes, edges, entries, taken_inserts, cause_refuses}
 use Rattle.insertion.proofs.PartLaws.{links_of, maps_of, not_both, links_full, links_over, links-grown, maps-pass}
@@ -214,11 +213,3 @@ module _ (rule : FarRule) (i : ℕ) (g : CircuitDag) (h : sound g ≡ true) (z :
             let w = inserted rule i g b keeps all (first_map g h z) (last_map g h z) (node (size g)) refl (sym (ap (λ (q : Registered). q.answer) er) ∙ e) in
             let p : a ≡ assembled (node_after b (node_lists g)) (once rule i g b keeps) (register_record i g.first_registers g.last_registers b (node (size g))) = ea ∙ (λ j. assembled (en j) (is-once j) (er j)) ∙ ap (λ (y : NodeLists). assembled (node_after b y) (once rule i g b keeps) (register_record i g.first_registers g.last_registers b (node (size g)))) el in
             ap (λ (y : CircuitDag). record { answer = Ok (node (size g)); graph = y }) p ∙ w
-
-pub sound_inserts : (rule : LoadingRule) (g : CircuitDag) (bytes : List ℕ) → sound g ≡ true → insert_as (rule_of rule) 0 g bytes ≡ insert_by rule g bytes
-unfolding insert_by
-sound_inserts rule g bytes h = rw h refl
-
-pub unsound_refuses : (rule : LoadingRule) (g : CircuitDag) (bytes : List ℕ) → sound g ≡ false → refused Unsound g ≡ insert_by rule g bytes
-unfolding insert_by
-unsound_refuses rule g bytes h = rw h refl

@@ -66,10 +66,6 @@ module _ (file order : List ℕ) (k : ℕ) (x : NodeLists) (h : k < length order
     same = rw (e, part, is, add-one) (rw (drop-cons order k 0 h) at l.same);
   }
 
-  -- a list of at most 512 records has room for one more
-  pub room : length order ≤ 512 → (x.nodes.count < 512) × (x.commuting.count < 512) × (x.backs < 512) × (x.fronts < 512)
-  room small = (omega (arith, l.size), omega (arith, l.few), omega (arith, l.ends), omega (arith, l.ends))
-
 pub end : (file order : List ℕ) (k : ℕ) (x : NodeLists) → Listing file order x k → length order ≤ k → x ≡ nodes_after file (node_lists empty) order
 unfolding nodes_after
 end file order k x l h = let z : drop k order ≡ [] = drop_of_length-le order {i = k} (omega arith) in rw z at l.same

@@ -49,6 +49,7 @@ fn insert_sound(rule: LoadingRule, i: usize, g: CircuitDag, part: &[u8]) -> Inse
 }
 
 // Any bytes as a record on any graph: 11, then 4, 12, 5, 6, 7. A refusal returns the graph that came in.
+#[tactic(auto, unfolding(crate::specs::Limits::insert_by))]
 pub fn insert_by(rule: LoadingRule, g: CircuitDag, part: &[u8]) -> Inserted
     ensures { result ≡ insert_by rule g part.now }
 {
