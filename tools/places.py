@@ -45,6 +45,16 @@ def split(text):
     return [p for p in parts + [part.strip()] if p]
 
 
+def past_type(text, at):
+    """The index behind what is returned, where the clauses or the body begin; a `;` inside brackets is an array's."""
+    depth = 0
+    for i in range(at, len(text)):
+        depth += (text[i] in "([") - (text[i] in ")]")
+        if depth == 0 and (text[i] in "{;" or re.compile(r"\b(requires|ensures)\b").match(text, i)):
+            return i
+    return len(text)
+
+
 class Function:
     def __init__(self, crate, path, text, at):
         self.crate, self.path = crate, path
@@ -53,18 +63,17 @@ class Function:
         opening = text.index("(", at)
         end = closing(text, opening, "()")
         self.params = [p for p in split(text[opening + 1:end - 1]) if "self" not in p.split(":")[0]]
+        end = past_type(text, end)
         self.clauses = []
         while True:
-            clause = re.compile(r"\s*(->[^{;]*?(?=\s(?:requires|ensures|ensures_drop|where)\b|\s*\{|;))?"
-                                r"\s*(requires|ensures)\s*(\w+\s+)?\{").match(text, end)
+            clause = re.compile(r"\s*(requires|ensures)\s*(\w+\s+)?\{").match(text, end)
             if not clause:
                 break
             last = closing(text, clause.end() - 1)
-            self.clauses.append((clause.group(2), text[clause.end():last - 1].strip()))
+            self.clauses.append((clause.group(1), text[clause.end():last - 1].strip()))
             end = last
-        opening = text.find("{", end)
-        stop = text.find(";", end)
-        self.body = "" if opening < 0 or 0 <= stop < opening else text[opening:closing(text, opening)]
+        opening = re.compile(r"\s*").match(text, end).end()
+        self.body = text[opening:closing(text, opening)] if text[opening:opening + 1] == "{" else ""
         self.body_line = text.count("\n", 0, opening) + 1
         self.public = bool(re.search(r"pub\s+(extern\s+\"C\"\s+)?$", text[max(0, at - 20):at]))
 
