@@ -42,7 +42,8 @@ fn parse_all(file: &[u8]) -> Result<(), Refusal> {
     Ok(())
 }
 
-// What is tried with a file: parsing all its records, or reading one.
+// What is tried with a file: parsing all its records, or reading one. No Option of a number: None would not say that all
+// are parsed.
 #[derive(Clone, Copy)]
 enum Trial {
     Parse,
@@ -133,7 +134,8 @@ fn count_changes(trial: Trial) -> Counts {
     counts
 }
 
-// A file of n records of 14 zero bytes in a larger array: the header and pair k, then zeros.
+// A file of n records of 14 zero bytes in a larger array: the header and pair k, then zeros. By number, here and in
+// entry_list: a pair's fields and an entry's are written from it.
 fn zero_records(n: u16) -> [u8; 9237]
     requires { n ≤ 513 }
 {
@@ -212,7 +214,8 @@ fn print_records(rt: &impl Print) -> io::Result<()> {
     Ok(())
 }
 
-// One line: a count byte, how many entries there are, what else is to say, and the answer to a record of such a length.
+// One line: a count byte, how many entries there are, what else is to say, and the answer to a record of such a length. What
+// n is at most is said three times: a type for it would have to be made at each of the calls.
 fn print_list(rt: &impl Print, c: u8, n: u8, length: u8, more: &str) -> io::Result<()>
     requires { n ≤ 26 }
 {

@@ -79,7 +79,7 @@ fn definition(length: u16) -> [u8; 23] {
     file
 }
 
-// A file of a definition of name 1 and a list of c keys of that name, from index `first` on.
+// A file of a definition of name 1 and a list of c keys of that name, from index `first` on: each is written from its number.
 fn measured(length: u16, first: u16, c: u8) -> [u8; 117]
     requires { (first ≤ 256) × (c ≤ 25) }
 {

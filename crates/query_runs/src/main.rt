@@ -19,7 +19,7 @@ fn print_answer(
     println!(rt; "{title}{}", Answer { answer, buffer })
 }
 
-// What node v waits for.
+// What node v waits for. Here and below the graph, the node and the buffer are what the queries themselves take.
 fn probe_node(rt: &impl Print, g: CircuitDag, v: u16, buffer: &mut [u16]) -> io::Result<()> {
     println!(rt; "node {v} buffer {}", buffer.len())?;
     let executed = [0, 0, 700];

@@ -89,14 +89,10 @@ fn print_all_node(rt: &impl Print, all: NodeIndex) -> io::Result<()> {
     println!(rt)
 }
 
-// The node of a key.
+// The node of a key, which stands in two columns.
 fn node_of(r: &Registers, name: u8, index: u16) -> Option<u16> {
-    for i in 0..r.count.min(256) {
-        if r.name[i] == name && r.index[i] == index {
-            return Some(r.node[i]);
-        }
-    }
-    None
+    let i = (0..r.count.min(256)).find(|i| r.name[*i] == name && r.index[*i] == index)?;
+    r.node.get(i).copied()
 }
 
 // How many entries, then those of names 0 to 3 with indices 0 to 255, ascending; the circuits have no others.
@@ -123,7 +119,7 @@ fn print_node(rt: &impl Print, g: CircuitDag, v: u16) -> io::Result<()> {
     print_query(rt, "blocked by:", c, &buffer)
 }
 
-// The cast keeps the value: v is below 512.
+// By number, since what a node keeps stands in columns. The cast keeps the value: v is below 512.
 fn print_nodes(rt: &impl Print, g: CircuitDag) -> io::Result<()> {
     for v in 0..g.nodes.count.min(512) {
         let nodes = &g.nodes;
@@ -222,7 +218,7 @@ fn print_answers(
     print_query(rt, "layer:", c, &buffer)
 }
 
-// The same, the lists being bytes, of which at most 32 are taken.
+// The same, the lists being bytes, of which at most 32 are taken, into arrays: there is no heap.
 fn print_queries(
     rt: &impl Print,
     g: CircuitDag,
