@@ -79,8 +79,8 @@ impl<'a> Operations<'a> {
         ensures { result.g.now ≡ g.now }
     {
         let mut marks = [false; 512];
-        for v in 0..512 {
-            marks[v] = is_operation(g.nodes.kind[v], g.nodes.form[v]);
+        for (v, mark) in marks.iter_mut().enumerate() {
+            *mark = is_operation(g.nodes.kind[v], g.nodes.form[v]);
         }
         Operations { g, marks }
     }

@@ -20,8 +20,8 @@ pub(crate) fn marks_of(bytes: &[u8; 512]) -> [bool; 512]
     ensures { result ≡ marks_of bytes.now }
 {
     let mut marks = [false; 512];
-    for v in 0..512 {
-        marks[v] = bytes[v] == 1;
+    for (v, mark) in marks.iter_mut().enumerate() {
+        *mark = bytes[v] == 1;
     }
     marks
 }
@@ -31,8 +31,8 @@ pub(crate) fn bytes_of(marks: &[bool; 512]) -> [u8; 512]
     ensures { result ≡ bytes_of marks.now }
 {
     let mut bytes = [0u8; 512];
-    for v in 0..512 {
-        bytes[v] = u8::from(marks[v]);
+    for (v, byte) in bytes.iter_mut().enumerate() {
+        *byte = u8::from(marks[v]);
     }
     bytes
 }
