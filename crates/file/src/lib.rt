@@ -74,7 +74,8 @@ pub struct RegisterKey {
     pub index: u16,
 }
 
-// What a record says.
+// What a record says. The kind is a byte and no enum: a handed-in graph and C hold kinds 6 to 255 too, so that an enum
+// would become the number again at each use.
 #[derive(Clone, Copy, Debug, PartialEq, Eq)]
 pub struct Record {
     pub front: bool,

@@ -58,7 +58,7 @@ fn check_header(file: &[u8]) -> Result<usize, Refusal>
 }
 
 // The header and the pairs, in the document's order: 2 once two bytes are there, then 1, then 3. `end` is where the
-// table, or the part before pair k, ends; there may be slack behind it.
+// table, or the part before pair k, ends; there may be slack behind it. By the pair's number, which the refusal names.
 pub fn check_file(file: &[u8]) -> Result<(), Refusal>
     ensures { result ≡ check_file file.now }
 {

@@ -179,7 +179,7 @@ pub fn record_label(part: &[u8]) -> u16
     field_at(part, 12)
 }
 
-// The qubit form's number.
+// The qubit form's number, as document 01 counts the forms. A match, here and below: a From would have the same arms.
 pub fn qubit_form(qubits: InvolvedQubits) -> u8
     ensures { result ≡ form_of qubits }
 {

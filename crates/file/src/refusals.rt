@@ -21,7 +21,7 @@ impl fmt::Display for Refusal {
 
 impl Error for Refusal {}
 
-// The number of a cause, 1 to 12.
+// The number of a cause, 1 to 12, as document 01's table has it. A match: a From would have the same arms.
 pub fn refusal_number(r: Refusal) -> u8
     ensures { result ≡ number_of r }
 {

@@ -14,8 +14,9 @@ pub use checking::check_sound;
 pub use sets::{has_member, members_below, no_marks};
 pub use soundness::{is_register_map, is_sound};
 
-// A node number (the source's NodeIndex); 65535 where there is none. The arrays below hold such numbers, since they cross
-// to C and document 01 marks an absent entry in them: an Option stands where a function answers.
+// A node number (the source's NodeIndex); 65535 where there is none. The arrays below hold such numbers, since they
+// cross to C and document 01 marks an absent entry in them: an Option stands where a function answers, but in the
+// chain, where any number will do.
 #[repr(C)]
 #[derive(Clone, Copy, Debug, PartialEq, Eq)]
 pub struct NodeIndex(pub u16);

@@ -73,7 +73,8 @@ struct Operations<'a> {
 }
 
 impl<'a> Operations<'a> {
-    // A loop and no array::from_fn: `search` stops at its limit on what 512 calls of the closure gave.
+    // A loop over the marks and no array::from_fn: tried, but `search` stops at its limit on what 512 calls of the
+    // closure gave.
     fn of(g: &'a CircuitDag) -> Operations<'a>
         requires { (size g.now ≤ 512) × (g.now.edges.count ≤ 2048) }
         ensures { result.g.now ≡ g.now }
@@ -144,8 +145,8 @@ impl<'a> Operations<'a> {
 
     // Every edge fits and no two are the same, for edges of which those with one older end and direction come in the
     // order of their newer ends, as insertion leaves them: a cell's stamp is the newer end of its last edge, plus 1.
-    // One pass with 2 KB of stamps; where it says no, the two slower ones of all_edges_fit decide. By the edge's number,
-    // here and below: a zip of the two columns would name the count twice and say no more.
+    // One pass with 2 KB of stamps; where it says no, the two slower ones of all_edges_fit decide. By the edge's
+    // number, in all loops over edges: a zip of the two columns would name the count twice and say no more.
     fn edges_ascend(&self) -> bool
         ensures { result ≡ true → (edges_fit self.now.g.now && edges_differ self.now.g.now.edges) ≡ true }
     {
@@ -271,7 +272,8 @@ impl<'a> Entries<'a> {
     }
 
     // The keys ascend, as definitions in the order of their names leave them, and so are distinct: no table is needed,
-    // and no branch on an entry. Where this says no, keys_differ decides.
+    // and no branch on an entry. Where this says no, keys_differ decides. Field by field and by position, here and
+    // below: an entry stands in columns.
     fn keys_ascend(&self) -> bool
         ensures { result ≡ true → keys_distinct self.now.map.now ≡ true }
     {
@@ -296,6 +298,7 @@ impl<'a> Entries<'a> {
 
     // The keys are distinct, whatever their order, by a table of cells: names that differ modulo 8, with indices below
     // 256, have cells of their own. Behind a free cell the key is new; behind a taken one the keys before it decide.
+    // Crate registers counts cells so too: each cell is private to a table of its own.
     fn keys_differ(&self) -> bool
         ensures { result ≡ keys_distinct self.now.map.now }
     {

@@ -1,5 +1,6 @@
-// The graph and the walk as they cross to C: what came as ours, and ours as what goes. What came is tested first, and then
-// taken as it is: TryFrom would move the 16 KB once more, out of its Result.
+// The graph and the walk as they cross to C: what came as ours, and ours as what goes. What came is tested first, and
+// then taken as it is: TryFrom would move the 16 KB once more, out of its Result, and From would let bytes be taken
+// untested.
 ghost use Rattle.std.specs.Prelude.{◌≡◌};
 ghost use Rattle.host.specs.Marks.{end_of, host_end, is_dag, dag_of, host_of, is_walk, walk_of, host_walk};
 

@@ -1,5 +1,6 @@
-// The empty graph, the load of a file, a single insertion, each in either way, and soundness. Both loads have the same lines: a graph that a shared
-// function returned would be copied once more, a tenth of the instructions of a load of 64 records.
+// The empty graph, the load of a file, a single insertion, each in either way, and soundness. Both loads have the same
+// lines: tried with one function, but the graph that a shared function returns is copied once more, so that a load is
+// slower.
 ghost use Rattle.std.specs.Prelude.{◌≡◌};
 ghost use Rattle.graph.specs.Dag.{empty};
 ghost use Rattle.links.specs.declared.LoadingRule.TheVariants.{FarAll};

@@ -59,7 +59,7 @@ pub fn insert_by(rule: LoadingRule, g: CircuitDag, part: &[u8]) -> Inserted
     not_inserted(Refusal::Unsound, g)
 }
 
-// The same by document 01's rule.
+// The same by document 01's rule: document 01's call, whose clause names no rule.
 pub fn insert(g: CircuitDag, part: &[u8]) -> Inserted
     ensures { result ≡ insert_of g part.now }
 {

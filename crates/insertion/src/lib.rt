@@ -20,7 +20,7 @@ pub struct Inserted {
     pub graph: CircuitDag,
 }
 
-// What a load answers, and the graph, as for an insertion.
+// What a load answers, and the graph: a struct, and no Result, since a refused load promises the empty graph.
 #[derive(Clone, Copy)]
 pub struct Loaded {
     pub answer: Result<(), Refusal>,

@@ -56,7 +56,7 @@ pub fn load_by(rule: LoadingRule, file: &[u8]) -> Loaded
     insert_in_order(rule, file, &order[..file::record_count(file)])
 }
 
-// The same by document 01's rule.
+// The same by document 01's rule: document 01's call, whose clause names no rule.
 pub fn load(file: &[u8]) -> Loaded
     ensures { result ≡ load_of file.now }
 {

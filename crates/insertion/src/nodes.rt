@@ -7,7 +7,9 @@ ghost use Rattle.insertion.specs.Parts.{node_lists, node_after, nodes_after};
 
 use graph::{CircuitDag, Commuting, NodeIndex, Nodes};
 
-// The nodes, the commuting list and the counts of insertions.
+// The nodes, the commuting list and the counts of insertions. That they have room stands in what push and its functions
+// ask, and in no ghost field: specs/Parts.antt makes these lists of any graph, and those of an unsound one have no
+// bounds.
 #[derive(Clone, Copy)]
 pub(crate) struct NodeLists {
     pub nodes: Nodes,

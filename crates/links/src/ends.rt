@@ -112,7 +112,7 @@ impl WorkingEnd {
         self.members = Members::Several;
     }
 
-    // v joins the block, if it does.
+    // v joins the block, if it does: by a bool, as the rule's link_set joins it by a `cond`.
     fn join_block(&mut self, v: Node, joins: bool)
         ensures { self.new ≡ record self.old { block = cond joins (set self.old.block v.number.0 true) self.old.block } }
     {
@@ -155,7 +155,8 @@ impl WorkingEnd {
         self.end.node[..self.top].iter().any(|u| *u != 65535)
     }
 
-    // Every node in the map is joined with v, and its qubits map to v.
+    // Every node in the map is joined with v, and its qubits map to v. others is empty before, so that 64 entries find
+    // room.
     fn map_all(&mut self, v: Node, others: &mut Others)
         requires { others.old ≡ [] }
         ensures nodes { self.new ≡ record self.old { node = map (λ (u : ℕ). cond (present u) v.number.0 u) self.old.node } }
@@ -176,7 +177,7 @@ fn clear_block(block: &mut [bool; 512], members: Members)
     }
 }
 
-// The entries with a node become v, and their nodes join the others. Each is written before its node joins, which was faster.
+// The entries with a node become v, and their nodes join the others.
 fn map_to(entries: &mut [u16], v: NodeIndex, others: &mut Others)
     requires few { length entries.old ≤ 64 }
     requires none { others.old ≡ [] }
@@ -203,7 +204,7 @@ fn fresh_entry(rule: LoadingRule, near: &WorkingEnd, far: &WorkingEnd, v: Node) 
     all.unwrap_or(v)
 }
 
-// How many qubits a mask has.
+// How many qubits a mask has. A cast: at most 64, and usize has no From of a u32.
 fn qubit_count(mask: u64) -> usize
     ensures { result ≡ length (qubits mask) }
 {

@@ -4,7 +4,7 @@ ghost use Rattle.std.specs.Prelude.{◌≡◌, true, ◌<◌, ◌≤◌, MatchRe
 use file::Refusal;
 use graph::{NodeIndex, Qubit};
 
-// A node of a graph.
+// A node of a graph. Crate queries has one of its own: in graph, `named` would be public and ask something.
 #[derive(Clone, Copy)]
 pub(crate) struct Node {
     pub(crate) number: NodeIndex,
@@ -53,6 +53,7 @@ impl Node {
         Some(Node { number: x })
     }
 
+    // MapQubit has the same method: a trait with its law would be longer than the two.
     pub(crate) fn index(self) -> usize
         ensures { result ≡ self.number.0 }
     {

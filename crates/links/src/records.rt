@@ -157,8 +157,9 @@ impl Links {
     }
 }
 
-// Record i, at this end and with these qubits, as node v, on the ends and edges of a graph with v nodes: 11 where an end names another node or there
-// are too many edges, then 5, 6. A refusal leaves them as they were.
+// Record i, at this end and with these qubits, as node v, on the ends and edges of a graph with v nodes: 11 where an
+// end names another node or there are too many edges, then 5, 6. A refusal leaves them as they were. Its parameters are
+// a record's and document 01's parts of a graph: a struct of them would be made for this one call.
 pub fn link_node(
     rule: LoadingRule,
     i: usize,

@@ -44,7 +44,8 @@ pub(crate) struct RegisterMap {
     ghost fits: { Fits entries },
 }
 
-// The cell of a key's guess: names that differ modulo 8, with indices below 256, have cells of their own.
+// The cell of a key's guess: names that differ modulo 8, with indices below 256, have cells of their own. Crate graph
+// counts cells so too: each cell is private to a table of its own.
 fn hint_cell(key: RegisterKey) -> usize
     ensures { result < 2048 }
 {
@@ -127,7 +128,8 @@ impl RegisterMap {
         Ok(true)
     }
 
-    // Which of the definition's keys stand; each of those becomes its node.
+    // Which of the definition's keys stand; each of those becomes its node. By position, here and below: an entry
+    // stands in three columns.
     fn mark(&mut self, d: Definition) -> [bool; 256]
         ensures { Standing d.name d.length d.v.0 self.old.entries self.new.entries result }
     {

@@ -11,6 +11,8 @@ use file::{InvolvedClassical, Refusal};
 use graph::{NodeIndex, Registers};
 use links::LoadingRule;
 
+// The three answers are functions, since clauses name each by a definition of specs/. first, last and v stay apart, as
+// the graph's parts and document 01's calls have them.
 // The refusal of the record after k accepted ones.
 fn maps_stopped(k: usize, r: Refusal) -> Registered
     ensures { result ≡ maps_stopped k r }

@@ -85,7 +85,7 @@ pub fn blocks_text_by(rule: LoadingRule, file: &[u8]) -> Text
     text.into_text()
 }
 
-// What the program `blocks` prints for a file.
+// What the program `blocks` prints for a file: document 01's call, whose clause names no rule.
 pub fn blocks_text(file: &[u8]) -> Text
     ensures value { result ≡ text_of (file_text file.now) }
     ensures length_in_bounds { result.length ≤ length result.bytes }

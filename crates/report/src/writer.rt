@@ -5,7 +5,7 @@ ghost use Rattle.report.specs.Text.{digits, decimal, text_of};
 use crate::Text;
 use std::marker::Model;
 
-// Contracts see the text so far.
+// Contracts see the text so far. Each function asks room for what it writes: without, each would answer a Result.
 #[derive(Drop)]
 pub(crate) struct Writer {
     bytes: [u8; 5120],
@@ -50,7 +50,8 @@ impl Writer {
         }
     }
 
-    // The last k decimal digits of x, without zeros in front: by recursion, since the last digit comes last.
+    // The last k decimal digits of x, without zeros in front: by recursion, since the last digit comes last. By hand:
+    // `write!` may fail, and here there is always room.
     fn write_digits(&mut self, k: usize, x: usize)
         requires { length self.old + length (digits k x) ≤ 5120 }
         ensures { self.new ≡ self.old ++ digits k x }

@@ -23,7 +23,8 @@ pub fn schedule_by(rule: LoadingRule, file: &[u8], buffer: &mut [u16]) -> Result
     walk::whole_walk(loaded.graph, buffer)
 }
 
-// In document 01's way: the promise is of files with at most one all-qubit pulse where there are pulses at both ends.
+// Document 01's call, whose clause names no rule: the promise is of files with at most one all-qubit pulse where there
+// are pulses at both ends.
 pub fn schedule(file: &[u8], buffer: &mut [u16]) -> Result<usize, Refusal>
     ensures buffer_after { record { answer = result; buffer = buffer.new } ≡ schedule_of file.now buffer.old }
     ensures promise { (k : ℕ) → result ≡ Ok k → Condition file.now → Scheduled file.now k buffer.new }

@@ -43,7 +43,7 @@ pub fn print_blocks_by(rt: &(impl Input + Print), rule: LoadingRule) -> Text
     text
 }
 
-// The program `blocks`: document 01's way.
+// The program `blocks`: document 01's call, whose clause names no rule.
 pub fn print_blocks(rt: &(impl Input + Print)) -> Text
     ensures { Printed result }
 {
