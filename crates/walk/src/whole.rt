@@ -3,7 +3,7 @@ ghost use Rattle.std.specs.Prelude.{◌≡◌, true, false, cond, not, ◌&&◌,
 ghost use Rattle.file.specs.Lists.{members, onto, up_to};
 ghost use Rattle.graph.specs.Dag.{size};
 ghost use Rattle.graph.specs.Soundness.{sound};
-ghost use Rattle.queries.specs.Marks.{in_turn};
+ghost use Rattle.queries.specs.Marks.{in_turn, EndsBelow};
 ghost use Rattle.walk.specs.Blocks.{whole_walk, blocks, number_from, joined, start, next};
 ghost use Rattle.walk.specs.Numbering.{at, following, Swept, Settled, Begun, Zeroed, Counted, Reaching, Freed, free_after};
 
@@ -19,8 +19,8 @@ fn raised(old: u16, before: u16) -> u16
     old.max(before.saturating_add(1))
 }
 
-// The arc that comes i-th in a pass up or down the m arcs, as in the queries. One public function for both would have
-// to ask nothing of i: with `saturating_sub` for that, all blocks were found to take some hundredths longer.
+// The arc that comes i-th in a pass up or down the m arcs, as in the queries. One public function for the queries and the
+// walk may ask nothing of i, and a total one (`saturating_sub`) says less plainly which arc it is.
 fn in_turn(i: usize, m: usize, up: bool) -> usize
     requires { i < m }
     ensures { result ≡ in_turn i m up }
@@ -58,7 +58,8 @@ fn settle(arcs: &Arcs, n: usize, first_up: bool, num: &mut [u16; 512])
     }
 }
 
-// 0 for a member, 65535 for any other node: the first block's numbers, or who has run.
+// 0 for a member, 65535 for any other node: the first block's numbers, or who has run. 65535 as in the lent buffer, which
+// C reads.
 fn number_at_first(member: bool) -> u16
     ensures { result ≡ cond member 0 65535 }
 {
@@ -86,7 +87,7 @@ fn number_targets(targets: &[u16], num: &mut [u16; 512])
     }
 }
 
-// One more than the greater of two numbers, 65535 left out.
+// One more than the greater of two numbers, 65535 left out, as in the lent buffer, which C reads.
 fn count_with(count: usize, x: u16) -> usize
     ensures { result ≡ cond (ltb x 65535) (max count (x + 1)) count }
 {
@@ -107,18 +108,27 @@ fn count_blocks(num: &[u16]) -> usize
     count
 }
 
+// The arcs that lead as a graph's edges do. The queries have the same function for themselves: it asks for ends that are
+// nodes, and a public one asks nothing.
+fn along(g: &CircuitDag) -> Arcs<'_>
+    requires { EndsBelow g.now.edges.to g.now.edges.from g.now.edges.count }
+    ensures near { result.near.now ≡ g.now.edges.to }
+    ensures far { result.far.now ≡ g.now.edges.from }
+    ensures count { result.count ≡ g.now.edges.count }
+{
+    Arcs {
+        near: &g.edges.to,
+        far: &g.edges.from,
+        count: g.edges.count,
+    }
+}
+
 // Each node's block number, 65535 where no block holds it.
 fn numbers_of(g: CircuitDag) -> [u16; 512]
     requires { sound g ≡ true }
     ensures { (v : ℕ) → v < size g → at result v ≡ number_from 0 (blocks g) v }
 {
-    // A literal: a function that makes it for every crate would ask that the graph is sound, and a public one asks
-    // nothing.
-    let arcs = Arcs {
-        near: &g.edges.to,
-        far: &g.edges.from,
-        count: g.edges.count,
-    };
+    let arcs = along(&g);
     let mut num = first_numbers(&g.first.block);
     number_targets(&g.edges.to[..g.edges.count], &mut num);
     settle(&arcs, g.nodes.count, g.fronts == 0, &mut num);
@@ -162,7 +172,7 @@ fn targets_of(arcs: &Arcs, chosen: &[bool; 512]) -> [bool; 512]
     found
 }
 
-// Takes away the nodes that wait: those with an edge from one with 65535.
+// Takes away the nodes that wait: those with an edge from one with 65535, as in the lent buffer, which C reads.
 fn take_waiting(arcs: &Arcs, num: &[u16; 512], found: &mut [bool; 512])
     ensures { Freed arcs.now.far.now arcs.now.near.now arcs.now.count num.now found.old found.new }
 {
@@ -179,11 +189,7 @@ fn find_block(g: CircuitDag, current: &[bool; 512], all: &[bool; 512], started: 
     if !started {
         return g.first.block;
     }
-    let arcs = Arcs {
-        near: &g.edges.to,
-        far: &g.edges.from,
-        count: g.edges.count,
-    };
+    let arcs = along(&g);
     let mut num = first_numbers(all);
     settle(&arcs, g.nodes.count, g.fronts == 0, &mut num);
     let mut found = targets_of(&arcs, current);

@@ -6,8 +6,8 @@ use Rattle.walk.proofs.NumberingLaws.{targets_below}
 use Rattle.walk.proofs.WholeLaws.{numbers-found}
 use Rattle.walk.proofs.whole.numbers_of.Goals as goal
 
-pub invariant_of-arcs : goal.invariant_of-arcs
-invariant_of-arcs c = record { below = ends_on c.args.g (sound_told c.args.g (dag_sized c.args.g _ c.well_formed.0).commuting.list c.requires) }
+pub along-arcs-requires : goal.along-arcs-requires
+along-arcs-requires c = ends_on c.args.g (sound_told c.args.g (dag_sized c.args.g _ c.well_formed.0).commuting.list c.requires)
 
 pub shared_ref_as_front-number_targets : goal.shared_ref_as_front-number_targets
 shared_ref_as_front-number_targets c =
@@ -23,4 +23,4 @@ pub returns : goal.returns
 returns c =
     let d = dag_sized c.args.g _ c.well_formed.0 in
     let E = ends_on c.args.g (sound_told c.args.g d.commuting.list c.requires) in
-    numbers-found c.args.g c.requires _ _ c.first_numbers-num.ensures (omega (arith, E.count, d.edges.to)) c.number_targets.ensures _ c.settle.ensures
+    numbers-found c.args.g c.requires _ _ c.first_numbers-num.ensures (omega (arith, E.count, d.edges.to)) c.number_targets.ensures _ (rw (c.along-arcs.ensures.far, c.along-arcs.ensures.near, c.along-arcs.ensures.count) at c.settle.ensures)
