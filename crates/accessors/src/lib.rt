@@ -47,6 +47,9 @@ pub fn commuting_operations(g: CircuitDag, buffer: &mut [u16]) -> Result<usize, 
     answer_list(&g.commuting.list[..g.commuting.count], buffer)
 }
 
+// The two functions for the two blocks, and those for first and last operations below, have the source's names; what they
+// share is `answer_marked`, `at_qubit` and `at_key`.
+
 // The nodes of the first block, ascending.
 #[tactic(auto, unfolding(crate::specs::Accessors::first_parallel_block))]
 pub fn first_parallel_block(g: CircuitDag, buffer: &mut [u16]) -> Result<usize, Refusal>
@@ -65,8 +68,7 @@ pub fn last_parallel_block(g: CircuitDag, buffer: &mut [u16]) -> Result<usize, R
     answer_marked(g.last.block, buffer)
 }
 
-// The operation that an end's map has at a qubit. The source has a name for each end, as below; here is what they
-// share.
+// The operation that an end's map has at a qubit.
 fn at_qubit(end: End, q: Qubit) -> Option<NodeIndex>
     ensures { result ≡ operation_of (at_qubit end q.0) }
 {
@@ -97,7 +99,7 @@ pub fn last_operation_involving_qubit(g: CircuitDag, q: Qubit) -> Result<Option<
     Ok(at_qubit(g.last, q))
 }
 
-// The first position in a register map that has a key.
+// The first position in a register map that has a key. Field by field: an entry stands in columns.
 fn position_of(r: &Registers, key: RegisterKey) -> Option<usize>
     requires { r.now.count ≤ 256 }
     ensures { FirstWith r.now key result }

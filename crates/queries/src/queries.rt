@@ -184,6 +184,8 @@ pub fn answer_list(list: &[u16], buffer: &mut [u16]) -> Result<usize, Refusal>
     Ok(list.len())
 }
 
+// In the public queries g, executed, v and buffer stand one by one: they are the parameters of document 01's calls.
+
 // All nodes other than v from which v is reached, minus those in the executed list, ascending.
 #[tactic(auto, unfolding(crate::specs::Queries::execution_blocked))]
 pub fn execution_blocked(
