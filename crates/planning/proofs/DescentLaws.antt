@@ -5,9 +5,10 @@ use mathlib.Core.Logic.{◌⊎◌, inl, inr, ⊎_elim}
 use mathlib.Core.List.{List, [], ◌∷◌}
 use Prim.Native.Nat.{ℕ, suc, ◌+◌, ◌-◌, ◌≤◌, ◌<◌, min}
 use native.Mathlib.Omega.{arith}
+use borrow.Rule.Slice.PartMut.{mid_of, put_mid}
 use lib.Seq.{length-take-le, get_or-take}
 use native.Mathlib.Decide.{dec_lt}
-use lib.ListN.{length, get_or, set, take, drop, replicate, length-set, length-replicate, get_or-append}
+use lib.ListN.{length, get_or, set, take, drop, replicate, length-replicate, get_or-append}
 use borrow.Author.Tests.{eqb-true, eq-eqb}
 use Rattle.file.specs.Lists.{onto, put_at}
 use Rattle.file.specs.declared.Refusal.{Refusal}
@@ -17,8 +18,8 @@ use Rattle.graph.specs.Dag.{absent, size}
 use Rattle.graph.specs.Soundness.{sound}
 use Rattle.queries.specs.Queries.{Lent}
 use Rattle.file.proofs.BoolLaws.{bool_cases, and_l, and_r, and_intro, split_lt}
-use Rattle.file.proofs.PutLaws.{put-none, put_one, put-put, length-put}
-use Rattle.queries.proofs.BufferLaws.{answers_short, answers-whole}
+use Rattle.file.proofs.PutLaws.{put-none, put-onto}
+use Rattle.queries.proofs.BufferLaws.{answers_short, answers-whole, written_tail}
 use Rattle.graph.proofs.ListLaws.{any_default}
 use Rattle.walk.specs.Blocks.{Walked, blocks, block_numbers, whole_walk}
 use Rattle.walk.specs.Numbering.{at}
@@ -91,35 +92,29 @@ module _ (number from to : List ℕ) (m v t : ℕ) where
 
 -- ---- the descent in the lent buffer
 
-put_first : (i x : ℕ) (b : List ℕ) → i < length b → set b i x ≡ put_at i (x ∷ []) b
-put_first i x b h =
-    let z : i + 0 ≡ i = omega arith in
-    sym (λ j. set (put-none i b j) (z j) x) ∙ put_one i x [] b (omega arith)
+put_first : (x : ℕ) (b : List ℕ) → 0 < length b → set b 0 x ≡ onto (x ∷ []) b
+put_first x [] h = absurd (omega arith)
+put_first x (y ∷ b) h = refl
 
-descent_long : {number from to : List ℕ} {m t v : ℕ} {l : List ℕ} → Descent number from to m t v l → length l ≡ suc t
-descent_long bottom = refl
-descent_long (below S d) = ap suc (descent_long d)
+module _ (number from to : List ℕ) (m v : ℕ) (old : List ℕ) where
+  pub descend_last : (t : ℕ) → t ≡ 0 → t < length old → Descended number from to m v t old (set old 0 v)
+  descend_last t e h = rw e (record { nodes = v ∷ []; descent = bottom; put = put_first v old (omega arith) })
 
-pub descended_long : (number from to : List ℕ) (m v t i : ℕ) (old new : List ℕ) → Descended number from to m v t i old new → i + t < length old → length new ≡ length old
-descended_long number from to m v t i old new D h = ap length D.put ∙ length-put i D.nodes old (omega (arith, descent_long D.descent))
-
--- the call has room on the rest of the buffer
-pub descend_room : (v i : ℕ) (old : List ℕ) (t : ℕ) → (t ≡ 0 → ⊥) → i + t < length old → (i + 1) + (t - 1) < length (set old i v)
-descend_room v i old t f h = rw (length-set old i v) (omega arith)
-
-module _ (number from to : List ℕ) (m v i : ℕ) (old : List ℕ) where
-  pub descend_last : (t : ℕ) → t ≡ 0 → i + t < length old → Descended number from to m v t i old (set old i v)
-  descend_last t e h = rw e (record { nodes = v ∷ []; descent = bottom; put = put_first i v old (omega arith) })
-
-  pub descend_more : (t k u : ℕ) (new : List ℕ) → (t ≡ 0 → ⊥) → k ≡ t - 1 → i + t < length old → Smallest (Before number from to m v k) u
-      → Descended number from to m u k (i + 1) (set old i v) new → Descended number from to m v t i old new
-  descend_more t k u new f e h S D =
+  -- the call wrote on the rest
+  pub descend_more : (t k u : ℕ) (rest : List ℕ) → (t ≡ 0 → ⊥) → k ≡ t - 1 → t < length old → Smallest (Before number from to m v k) u
+      → Descended number from to m u k (mid_of 1 (length (set old 0 v) - 1) (set old 0 v)) rest
+      → Descended number from to m v t old (put_mid 1 (length (set old 0 v) - 1) (set old 0 v) rest)
+  descend_more t k u rest f e h S D =
       let z : t ≡ suc k = omega arith in
       rw z (record {
         nodes = v ∷ D.nodes;
         descent = below S D.descent;
-        put = D.put ∙ ap (put_at (i + 1) D.nodes) (put_first i v old (omega arith)) ∙ put-put i (v ∷ []) D.nodes old (omega arith);
+        put = written_tail 1 D.nodes (set old 0 v) rest D.put ∙ first old (omega arith);
       })
+    where
+      first : (b : List ℕ) → 0 < length b → put_at 1 D.nodes (set b 0 v) ≡ onto (v ∷ D.nodes) b
+      first [] l = absurd (omega arith)
+      first (y ∷ b) l = let z : 1 + length D.nodes ≡ suc (length D.nodes) = omega arith in rw z refl
 
 -- ---- on a sound graph it is the chain
 
@@ -172,13 +167,13 @@ module _ (g : CircuitDag) (s : sound g ≡ true) (number : List ℕ) (same : (u 
 
   -- the whole outcome
   pub chain-done : (k t r : ℕ) (old new : List ℕ) → k ≡ length (blocks g) → k ≤ length old → (k ≡ 0 → ⊥) → t ≡ k - 1 → Smallest (InBlock number n t) r
-      → Descended number from to m r t 0 old new → ◌≡◌ {A = Lent} (record { answer = Ok k; buffer = new }) (chain g old)
+      → Descended number from to m r t old new → ◌≡◌ {A = Lent} (record { answer = Ok k; buffer = new }) (chain g old)
   unfolding chain
   chain-done k t r old new e room some z S D =
       let l : t < length (blocks g) = omega arith in
       let q = top-is t r l S in
       let c = descent_is D.descent (ap (blk g s t) q ∙ top_in g s t l) ∙ ap (least_from n (E g s) (F g s) t) q ∙ sym (chain-is g s t (omega arith)) in
-      rw s (answers-whole (chain_of g) old new k (e ∙ sym (chain_long g s)) room (D.put ∙ ap (λ (x : List ℕ). put_at 0 x old) c))
+      rw s (answers-whole (chain_of g) old new k (e ∙ sym (chain_long g s)) room (D.put ∙ sym (put-onto D.nodes old) ∙ ap (λ (x : List ℕ). put_at 0 x old) c))
 
 -- ---- the other ways
 

@@ -7,12 +7,14 @@ use file::Refusal;
 use graph::{CircuitDag, NodeIndex};
 use queries::Arcs;
 
-// The smallest node with the block's number.
+// The smallest node with the block's number. Here and in the next function any number will do where there is none
+// (Smallest): an Option would add a case to `descend` that never comes.
 fn smallest_member(number: &[u16], block: usize) -> NodeIndex
     requires { length number.now ≤ 512 }
     ensures { Smallest (InBlock number.now (length number.now) block) result.0 }
 {
     match number.iter().position(|x| usize::from(*x) == block) {
+        // No loss: u is below 512.
         Some(u) => NodeIndex(u as u16),
         None => NodeIndex(65535),
     }
@@ -33,28 +35,21 @@ fn smallest_predecessor(number: &[u16; 512], arcs: &Arcs, v: NodeIndex, block: u
     NodeIndex(best)
 }
 
-// The chain from v on, a node of the block, over the buffer's entries from index i on: each call is for a direct
-// predecessor, the block's number one lower. It lends the arcs on, so that a call takes little of the stack. The
+// The chain from v on, a node of the block, over the buffer's first entries: each call is for a direct predecessor, the
+// block's number one lower, on the rest of the buffer. It lends the arcs on, so that a call takes little of the stack. The
 // numbers and the arcs are no struct: the check covers none with a field that itself holds references.
-fn descend(
-    number: &[u16; 512],
-    arcs: &Arcs,
-    v: NodeIndex,
-    block: usize,
-    buffer: &mut [u16],
-    i: usize,
-)
-    requires { i + block < length buffer.old }
-    ensures { Descended number.now arcs.now.near.now arcs.now.far.now arcs.now.count v.0 block i
+fn descend(number: &[u16; 512], arcs: &Arcs, v: NodeIndex, block: usize, buffer: &mut [u16])
+    requires { block < length buffer.old }
+    ensures { Descended number.now arcs.now.near.now arcs.now.far.now arcs.now.count v.0 block
         buffer.old buffer.new }
 {
-    buffer[i] = v.0;
+    buffer[0] = v.0;
     if block == 0 {
         return;
     }
     let lower = block - 1;
     let u = smallest_predecessor(number, arcs, v, lower);
-    descend(number, arcs, u, lower, buffer, i + 1);
+    descend(number, arcs, u, lower, &mut buffer[1..]);
 }
 
 // "The chain starts at the smallest node of the last block": its nodes to the lent buffer, and how many they are.
@@ -78,6 +73,6 @@ pub fn chain(dag: CircuitDag, buffer: &mut [u16]) -> Result<usize, Refusal>
     };
     let last = count - 1;
     let v = smallest_member(&number[..dag.nodes.count], last);
-    descend(&number, &arcs, v, last, buffer, 0);
+    descend(&number, &arcs, v, last, buffer);
     Ok(count)
 }
