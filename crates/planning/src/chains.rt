@@ -7,7 +7,7 @@ use file::Refusal;
 use graph::{CircuitDag, NodeIndex};
 use queries::Arcs;
 
-// The smallest node with the block's number. Here and in the next function any number will do where there is none
+// The smallest node with the block's number. Here and in smallest_predecessor any number will do where there is none
 // (Smallest): an Option would add a case to `descend` that never comes.
 fn smallest_member(number: &[u16], block: usize) -> NodeIndex
     requires { length number.now ≤ 512 }
@@ -20,36 +20,46 @@ fn smallest_member(number: &[u16], block: usize) -> NodeIndex
     }
 }
 
-// The smallest direct predecessor of v with the block's number; the arcs lead against the edges. It goes over indices:
-// two arrays cut to the count and zipped would say no more.
-fn smallest_predecessor(number: &[u16; 512], arcs: &Arcs, v: NodeIndex, block: usize) -> NodeIndex
-    ensures { Smallest (Before number.now arcs.now.near.now arcs.now.far.now arcs.now.count v.0 block) result.0 }
-{
-    let mut best: u16 = 65535;
-    for j in 0..arcs.count {
-        let node = arcs.near[j];
-        if arcs.far[j] == v.0 && usize::from(number[usize::from(node)]) == block {
-            best = best.min(node);
-        }
-    }
-    NodeIndex(best)
+// Each node's block number, and the arcs against the edges.
+#[derive(Clone, Copy)]
+struct Numbered<'n, 'a> {
+    number: &'n [u16; 512],
+    arcs: Arcs<'a>,
 }
 
-// The chain from v on, a node of the block, over the buffer's first entries: each call is for a direct predecessor, the
-// block's number one lower, on the rest of the buffer. It lends the arcs on, so that a call takes little of the stack. The
-// numbers and the arcs are no struct: the check covers none with a field that itself holds references.
-fn descend(number: &[u16; 512], arcs: &Arcs, v: NodeIndex, block: usize, buffer: &mut [u16])
-    requires { block < length buffer.old }
-    ensures { Descended number.now arcs.now.near.now arcs.now.far.now arcs.now.count v.0 block
-        buffer.old buffer.new }
-{
-    buffer[0] = v.0;
-    if block == 0 {
-        return;
+impl Numbered<'_, '_> {
+    // The smallest direct predecessor of v with the block's number. It goes over indices: two arrays cut to the count and
+    // zipped would say no more.
+    fn smallest_predecessor(&self, v: NodeIndex, block: usize) -> NodeIndex
+        ensures { Smallest
+            (Before self.now.number.now self.now.arcs.near.now self.now.arcs.far.now self.now.arcs.count v.0 block)
+            result.0 }
+    {
+        let mut best: u16 = 65535;
+        for j in 0..self.arcs.count {
+            let node = self.arcs.near[j];
+            if self.arcs.far[j] == v.0 && usize::from(self.number[usize::from(node)]) == block {
+                best = best.min(node);
+            }
+        }
+        NodeIndex(best)
     }
-    let lower = block - 1;
-    let u = smallest_predecessor(number, arcs, v, lower);
-    descend(number, arcs, u, lower, &mut buffer[1..]);
+
+    // The chain from v on, a node of the block, over the buffer's first entries: each call is for a direct predecessor,
+    // the block's number one lower, on the rest of the buffer.
+    fn descend(&self, v: NodeIndex, block: usize, buffer: &mut [u16])
+        requires { block < length buffer.old }
+        ensures { Descended self.now.number.now self.now.arcs.near.now self.now.arcs.far.now self.now.arcs.count
+            v.0 block buffer.old buffer.new }
+    {
+        buffer[0] = v.0;
+        if block == 0 {
+            return;
+        }
+        let lower = block - 1;
+        let u = self.smallest_predecessor(v, lower);
+        self.descend(u, lower, &mut buffer[1..]);
+    }
 }
 
 // "The chain starts at the smallest node of the last block": its nodes to the lent buffer, and how many they are.
@@ -73,6 +83,10 @@ pub fn chain(dag: CircuitDag, buffer: &mut [u16]) -> Result<usize, Refusal>
     };
     let last = count - 1;
     let v = smallest_member(&number[..dag.nodes.count], last);
-    descend(&number, &arcs, v, last, buffer);
+    let numbered = Numbered {
+        number: &number,
+        arcs,
+    };
+    numbered.descend(v, last, buffer);
     Ok(count)
 }

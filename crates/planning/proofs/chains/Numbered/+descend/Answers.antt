@@ -1,6 +1,6 @@
 use Rattle.planning.proofs.DescentLaws.{descend_last, descend_more}
 use Rattle.std.proofs.Common.{refl}
-use Rattle.planning.proofs.chains.+descend.Goals as goal
+use Rattle.planning.proofs.chains.Numbered.+descend.Goals as goal
 
 pub returns-then-block-eq0 : goal.returns-then-block-eq0
 returns-then-block-eq0 t c = descend_last _ _ _ _ _ _ _ c.if-block-eq0.true c.requires

@@ -1,4 +1,4 @@
-use Rattle.planning.proofs.chains.+descend.Given as goal
+use Rattle.planning.proofs.chains.Numbered.+descend.Given as goal
 
 abbrev pub decreases-descend : goal.decreases-descend
 decreases-descend l = l.block
