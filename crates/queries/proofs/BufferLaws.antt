@@ -19,8 +19,7 @@ use Rattle.file.proofs.BoolLaws.{bool_cases, clash_bool, split_lt}
 use Rattle.file.proofs.PutLaws.{put-none, put-put, length-put, put_one, put-onto}
 use Rattle.graph.proofs.ListLaws.{at-any, at_none}
 use Rattle.graph.proofs.CheckLaws.{unmarked}
-use Rattle.std.specs.Prelude.{Ok, filter}
-use Rattle.std.specs.List.{range_with_len}
+use Rattle.std.specs.Prelude.{Ok}
 
 -- ---- the entries that pass
 
@@ -111,23 +110,37 @@ answers_copied l b b' h s = answers-whole l b b' (length l) refl h (s ∙ ap (λ
 
 -- ---- the loops
 
--- the kept nodes are what a filter of the numbers lets through
-kept-filter : (p : ℕ → Bool) (n k : ℕ) → filter p (range_with_len k n) ≡ keep p (count_from n k)
-unfolding keep count_from
-kept-filter p zero k = refl
-kept-filter p (suc n) k = ⊎_elim
-    (λ (t : p k ≡ true). rw (t, kept-filter p n (k + 1)) refl)
-    (λ (t : p k ≡ false). rw (t, kept-filter p n (k + 1)) refl)
-    (bool_cases (p k))
-
-pub kept_filtered : (mark skip : List Bool) (n : ℕ) → filter (λ u. get_or mark u false && not (get_or skip u false)) (range_with_len 0 n) ≡ kept mark skip n
-kept_filtered mark skip n = kept-filter (λ u. get_or mark u false && not (get_or skip u false)) n 0
-
+-- the kept nodes below u are counted
 module _ (mark skip : List Bool) (n : ℕ) where
+  pub record Counting (k u : ℕ) : Type 0 where
+    pub fits : n ≤ 512
+    pub low : u ≤ n
+    pub count : k ≡ length (kept mark skip u)
+
   abbrev P : ℕ → Bool
   P u = get_or mark u false && not (get_or skip u false)
 
-  -- the kept nodes below u are written
+  pub counts_none : n ≤ 512 → Counting 0 0
+  unfolding keep count_from
+  counts_none f = record { fits = f; low = omega arith; count = refl }
+
+  pub counts_low : (k u : ℕ) → Counting k u → k ≤ u
+  counts_low k u C = omega (arith, C.count, keep_low P u)
+
+  pub counts_one : (k u : ℕ) (k' : ℕ) → Counting k u → u < n → (b : Bool) → b ≡ P u → b ≡ true → k' ≡ k + 1 → Counting k' (u + 1)
+  counts_one k u k' C h b e t s = record {
+    fits = C.fits;
+    low = omega arith;
+    count = omega (arith, s, C.count, ap length (keep_yes P u (sym e ∙ t)), length-append (keep P (up_to u)) (u ∷ []));
+  }
+
+  pub counts_not : (k u : ℕ) (k' : ℕ) → Counting k u → u < n → (b : Bool) → b ≡ P u → b ≡ false → k' ≡ k → Counting k' (u + 1)
+  counts_not k u k' C h b e t s = record { fits = C.fits; low = omega arith; count = omega (arith, s, C.count, ap length (keep_no P u (sym e ∙ t))) }
+
+  pub counts_all : (k u : ℕ) → Counting k u → n ≤ u → k ≡ length (kept mark skip n)
+  counts_all k u C h = let z : u ≡ n = omega (arith, C.low) in C.count ∙ ap (λ (x : ℕ). length (kept mark skip x)) z
+
+  -- and written
   module _ (b₀ : List ℕ) where
     pub record Writing (b : List ℕ) (k u : ℕ) : Type 0 where
       pub fits : n ≤ 512

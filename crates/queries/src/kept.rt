@@ -25,11 +25,17 @@ impl Kept<'_> {
         self.mark[u] & !self.skip[u]
     }
 
-    // How many they are.
+    // How many they are. A loop: tried as `filter(..).count()`, which proves, but `execution_blocked` takes 2 to 3 % longer.
     pub(crate) fn count(&self) -> usize
         ensures { result ≡ length (kept self.now.mark.now self.now.skip.now self.now.n) }
     {
-        (0..self.n).filter(|u| self.has(*u)).count()
+        let mut k: usize = 0;
+        for u in 0..self.n {
+            if self.has(u) {
+                k += 1;
+            }
+        }
+        k
     }
 
     // They go over the buffer's first entries. A loop that counts the index: tried as a zip of `iter_mut` with a filter,
