@@ -141,35 +141,35 @@ module _ (mark skip : List Bool) (n : ℕ) where
   counts_all k u C h = let z : u ≡ n = omega (arith, C.low) in C.count ∙ ap (λ (x : ℕ). length (kept mark skip x)) z
 
   -- and written
-  module _ (b₀ : List ℕ) where
+  module _ (start : ℕ) (b₀ : List ℕ) where
     pub record Writing (b : List ℕ) (k u : ℕ) : Type 0 where
       pub fits : n ≤ 512
-      pub room : length (kept mark skip n) ≤ length b₀
+      pub room : start + length (kept mark skip n) ≤ length b₀
       pub low : u ≤ n
-      pub count : k ≡ length (kept mark skip u)
-      pub put : b ≡ put_at 0 (kept mark skip u) b₀
+      pub count : k ≡ start + length (kept mark skip u)
+      pub put : b ≡ put_at start (kept mark skip u) b₀
 
-    pub writes-none : n ≤ 512 → length (kept mark skip n) ≤ length b₀ → Writing b₀ 0 0
+    pub writes-none : n ≤ 512 → start + length (kept mark skip n) ≤ length b₀ → Writing b₀ start 0
     unfolding keep count_from
-    writes-none f r = record { fits = f; room = r; low = omega arith; count = omega arith; put = sym (put-none 0 b₀) }
+    writes-none f r = record { fits = f; room = r; low = omega arith; count = omega arith; put = sym (put-none start b₀) }
 
     module _ (b : List ℕ) (k u : ℕ) (W : Writing b k u) (h : u < n) (x : Bool) (e : x ≡ P u) where
-      writes_low : x ≡ true → length (kept mark skip u) < length b₀
+      writes_low : x ≡ true → start + length (kept mark skip u) < length b₀
       writes_low t =
           let z : u + 1 + (n - (u + 1)) ≡ n = omega arith in
           let f : length (kept mark skip (u + 1)) ≤ length (kept mark skip n) = rw z at (keep_fewer P (n - (u + 1)) (u + 1)) in
           omega (arith, f, W.room, ap length (keep_yes P u (sym e ∙ t)), length-append (keep P (up_to u)) (u ∷ []))
 
       pub writes_room : x ≡ true → k < length b
-      writes_room t = omega (arith, W.count, ap length W.put, length-put 0 (kept mark skip u) b₀ (omega (arith, writes_low t)), writes_low t)
+      writes_room t = omega (arith, W.count, ap length W.put, length-put start (kept mark skip u) b₀ (omega (arith, writes_low t)), writes_low t)
 
       pub writes_one : x ≡ true → (b' : List ℕ) (k' : ℕ) → b' ≡ set b k u → k' ≡ k + 1 → Writing b' k' (u + 1)
-      writes_one t b' k' s q = let here : k ≡ 0 + length (kept mark skip u) = omega (arith, W.count) in record {
+      writes_one t b' k' s q = record {
         fits = W.fits;
         room = W.room;
         low = omega arith;
         count = omega (arith, q, W.count, ap length (keep_yes P u (sym e ∙ t)), length-append (keep P (up_to u)) (u ∷ []));
-        put = s ∙ (λ i. set (W.put i) (here i) u) ∙ put_one 0 u (kept mark skip u) b₀ (omega (arith, writes_low t)) ∙ ap (λ (l : List ℕ). put_at 0 l b₀) (sym (keep_yes P u (sym e ∙ t)));
+        put = s ∙ (λ i. set (W.put i) (W.count i) u) ∙ put_one start u (kept mark skip u) b₀ (writes_low t) ∙ ap (λ (l : List ℕ). put_at start l b₀) (sym (keep_yes P u (sym e ∙ t)));
       }
 
       pub writes-not : x ≡ false → (b' : List ℕ) (k' : ℕ) → b' ≡ b → k' ≡ k → Writing b' k' (u + 1)
@@ -178,17 +178,17 @@ module _ (mark skip : List Bool) (n : ℕ) where
         room = W.room;
         low = omega arith;
         count = omega (arith, q, W.count, ap length (keep_no P u (sym e ∙ t)));
-        put = s ∙ W.put ∙ ap (λ (l : List ℕ). put_at 0 l b₀) (sym (keep_no P u (sym e ∙ t)));
+        put = s ∙ W.put ∙ ap (λ (l : List ℕ). put_at start l b₀) (sym (keep_no P u (sym e ∙ t)));
       }
 
     pub writes_long : (b : List ℕ) (k u : ℕ) → Writing b k u → length b ≡ length b₀
     writes_long b k u W =
         let z : u + (n - u) ≡ n = omega (arith, W.low) in
         let f : length (kept mark skip u) ≤ length (kept mark skip n) = rw z at (keep_fewer P (n - u) u) in
-        ap length W.put ∙ length-put 0 (kept mark skip u) b₀ (omega (arith, f, W.room))
+        ap length W.put ∙ length-put start (kept mark skip u) b₀ (omega (arith, f, W.room))
 
-    pub writes_all : (b : List ℕ) (k u : ℕ) → Writing b k u → n ≤ u → b ≡ onto (kept mark skip n) b₀
-    writes_all b k u W h = let z : u ≡ n = omega (arith, W.low) in W.put ∙ ap (λ (x : ℕ). put_at 0 (kept mark skip x) b₀) z ∙ put-onto (kept mark skip n) b₀
+    pub writes_all : (b : List ℕ) (k u : ℕ) → Writing b k u → n ≤ u → b ≡ put_at start (kept mark skip n) b₀
+    writes_all b k u W h = let z : u ≡ n = omega (arith, W.low) in W.put ∙ ap (λ (x : ℕ). put_at start (kept mark skip x) b₀) z
 
 -- v stands at no index up to i
 pub not_yet : (v i : ℕ) (l : List ℕ) → ((j : ℕ) → j < i → eqb v (get_or l j 0) ≡ false) → (get_or l i 0 ≡ v → ⊥) → (j : ℕ) → j < i + 1 → eqb v (get_or l j 0) ≡ false
@@ -237,7 +237,7 @@ pub next-whole : (i k : ℕ) (layer freed b b1 b2 b3 : List ℕ) → i < length 
 next-whole i k layer freed b b1 b2 b3 h e s e1 e2 e3 = answers-whole (without i layer ++ freed) b b3 ((length layer - 1) + k) (omega (arith, next-length i layer freed h)) s
     (next-written i layer freed b b1 b2 b3 h (omega arith) e1 e2 e3)
 
--- the part of the buffer that the freed nodes are written to
+-- a list written at the start of a part that ends where the buffer does
 pub written_tail : (r : ℕ) (freed b x : List ℕ) → x ≡ onto freed (take (length b - r) (drop r b)) → put_mid r (length b - r) b x ≡ put_at r freed b
 written_tail r freed b x e =
     let d = drop r b in

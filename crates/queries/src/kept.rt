@@ -1,6 +1,6 @@
 // The nodes of an answer: those that are marked and not skipped.
 ghost use Rattle.std.specs.Prelude.{◌≡◌, false, not, ◌&&◌, ◌++◌, ◌+◌, ◌≤◌, ◌<◌, length, get_or};
-ghost use Rattle.file.specs.Lists.{onto};
+ghost use Rattle.file.specs.Lists.{put_at};
 ghost use Rattle.queries.specs.Marks.{kept, without, layer_by};
 ghost use Rattle.queries.specs.Queries.{answers};
 
@@ -38,13 +38,14 @@ impl Kept<'_> {
         k
     }
 
-    // They go over the buffer's first entries. A loop that counts the index: tried as a zip of `iter_mut` with a filter,
-    // and the proof did not close, as nothing is known of what was written through an adapter of `iter_mut`.
-    fn write(&self, buffer: &mut [u16])
-        requires { length (kept self.now.mark.now self.now.skip.now self.now.n) ≤ length buffer.old }
-        ensures { buffer.new ≡ onto (kept self.now.mark.now self.now.skip.now self.now.n) buffer.old }
+    // They go over the buffer's entries from start on. start stays: tried as a part of the buffer that begins there, which
+    // proves, but `new_front_layer` takes 3 to 4 % longer. A loop that counts the index: tried as a zip of `iter_mut` with
+    // a filter, and the proof did not close, as nothing is known of what was written through an adapter of `iter_mut`.
+    fn write(&self, buffer: &mut [u16], start: usize)
+        requires { start + length (kept self.now.mark.now self.now.skip.now self.now.n) ≤ length buffer.old }
+        ensures { buffer.new ≡ put_at start (kept self.now.mark.now self.now.skip.now self.now.n) buffer.old }
     {
-        let mut k: usize = 0;
+        let mut k: usize = start;
         for u in 0..self.n {
             if self.has(u) {
                 // No loss: u is below 512.
@@ -63,7 +64,7 @@ impl Kept<'_> {
         if buffer.len() < k {
             return Err(Refusal::ShortBuffer);
         }
-        self.write(buffer);
+        self.write(buffer, 0);
         Ok(k)
     }
 
@@ -85,7 +86,7 @@ impl Kept<'_> {
         }
         buffer[..i].copy_from_slice(&layer[..i]);
         buffer[i..rest].copy_from_slice(&layer[i + 1..]);
-        self.write(&mut buffer[rest..]);
+        self.write(buffer, rest);
         Ok(rest + k)
     }
 
