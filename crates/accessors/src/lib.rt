@@ -47,8 +47,8 @@ pub fn commuting_operations(g: CircuitDag, buffer: &mut [u16]) -> Result<usize, 
     answer_list(&g.commuting.list[..g.commuting.count], buffer)
 }
 
-// The two functions for the two blocks, and those for first and last operations below, have the source's names; what they
-// share is `answer_marked`, `at_qubit` and `at_key`.
+// The two functions for the two blocks, and those for first and last operations below, have the source's names; what
+// they share is `answer_marked`, `at_qubit` and `at_key`.
 
 // The nodes of the first block, ascending.
 #[tactic(auto, unfolding(crate::specs::Accessors::first_parallel_block))]

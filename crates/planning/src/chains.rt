@@ -28,8 +28,8 @@ struct Numbered<'n, 'a> {
 }
 
 impl Numbered<'_, '_> {
-    // The smallest direct predecessor of v with the block's number. It goes over indices: two arrays cut to the count and
-    // zipped would say no more.
+    // The smallest direct predecessor of v with the block's number. It goes over indices: two arrays cut to the count
+    // and zipped would say no more.
     fn smallest_predecessor(&self, v: NodeIndex, block: usize) -> NodeIndex
         ensures { Smallest
             (Before self.now.number.now self.now.arcs.near.now self.now.arcs.far.now self.now.arcs.count v.0 block)

@@ -30,8 +30,8 @@ impl<'a> Arcs<'a> {
         }
     }
 
-    // The arcs that lead against them. Two functions each, here and for the ends below: they differ in a field, which no
-    // parameter can name.
+    // The arcs that lead against them. Two functions each, here and for the ends below: they differ in a field, which
+    // no parameter can name.
     pub(crate) fn against(g: &'a CircuitDag) -> Arcs<'a>
         requires { EndsBelow g.now.edges.from g.now.edges.to g.now.edges.count }
         ensures near { result.near.now ≡ g.now.edges.from }

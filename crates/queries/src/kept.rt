@@ -25,7 +25,8 @@ impl Kept<'_> {
         self.mark[u] & !self.skip[u]
     }
 
-    // How many they are. A loop: tried as `filter(..).count()`, which proves, but `execution_blocked` takes 2 to 3 % longer.
+    // How many they are. A loop: tried as `filter(..).count()`, which proves, but `execution_blocked` takes 2 to 3 %
+    // longer.
     pub(crate) fn count(&self) -> usize
         ensures { result ≡ length (kept self.now.mark.now self.now.skip.now self.now.n) }
     {
@@ -38,9 +39,10 @@ impl Kept<'_> {
         k
     }
 
-    // They go over the buffer's entries from start on. start stays: tried as a part of the buffer that begins there, which
-    // proves, but `new_front_layer` takes 3 to 4 % longer. A loop that counts the index: tried as a zip of `iter_mut` with
-    // a filter, and the proof did not close, as nothing is known of what was written through an adapter of `iter_mut`.
+    // They go over the buffer's entries from start on. start stays: tried as a part of the buffer that begins there,
+    // which proves, but `new_front_layer` takes 3 to 4 % longer. A loop that counts the index: tried as a zip of
+    // `iter_mut` with a filter, and the proof did not close, as nothing is known of what was written through an adapter
+    // of `iter_mut`.
     fn write(&self, buffer: &mut [u16], start: usize)
         requires { start + length (kept self.now.mark.now self.now.skip.now self.now.n) ≤ length buffer.old }
         ensures { buffer.new ≡ put_at start (kept self.now.mark.now self.now.skip.now self.now.n) buffer.old }

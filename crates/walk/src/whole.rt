@@ -19,8 +19,8 @@ fn raised(old: u16, before: u16) -> u16
     old.max(before.saturating_add(1))
 }
 
-// The arc that comes i-th in a pass up or down the m arcs, as in the queries. One public function for the queries and the
-// walk may ask nothing of i, and a total one (`saturating_sub`) says less plainly which arc it is.
+// The arc that comes i-th in a pass up or down the m arcs, as in the queries. One public function for the queries and
+// the walk may ask nothing of i, and a total one (`saturating_sub`) says less plainly which arc it is.
 fn in_turn(i: usize, m: usize, up: bool) -> usize
     requires { i < m }
     ensures { result ≡ in_turn i m up }
@@ -58,8 +58,8 @@ fn settle(arcs: &Arcs, n: usize, first_up: bool, num: &mut [u16; 512])
     }
 }
 
-// 0 for a member, 65535 for any other node: the first block's numbers, or who has run. 65535 as in the lent buffer, which
-// C reads.
+// 0 for a member, 65535 for any other node: the first block's numbers, or who has run. 65535 as in the lent buffer,
+// which C reads.
 fn number_at_first(member: bool) -> u16
     ensures { result ≡ cond member 0 65535 }
 {
@@ -108,8 +108,8 @@ fn count_blocks(num: &[u16]) -> usize
     count
 }
 
-// The arcs that lead as a graph's edges do. The queries have the same function for themselves: it asks for ends that are
-// nodes, and a public one asks nothing.
+// The arcs that lead as a graph's edges do. The queries have the same function for themselves: it asks for ends that
+// are nodes, and a public one asks nothing.
 fn along(g: &CircuitDag) -> Arcs<'_>
     requires { EndsBelow g.now.edges.to g.now.edges.from g.now.edges.count }
     ensures near { result.near.now ≡ g.now.edges.to }
