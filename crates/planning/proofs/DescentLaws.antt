@@ -2,13 +2,13 @@
 use mathlib.Core.Path.{◌≡◌, refl, sym, ◌∙◌, ap, subst}
 use mathlib.Core.Bool.{true, false, ◌&&◌}
 use mathlib.Core.Logic.{◌⊎◌, inl, inr, ⊎_elim}
-use mathlib.Core.List.{List, [], ◌∷◌}
+use mathlib.Core.List.{List, [], ◌∷◌, ◌++◌, append-nil}
 use Prim.Native.Nat.{ℕ, suc, ◌+◌, ◌-◌, ◌≤◌, ◌<◌, min}
 use native.Mathlib.Omega.{arith}
 use borrow.Rule.Slice.PartMut.{mid_of, put_mid}
-use lib.Seq.{length-take-le, get_or-take}
+use lib.Seq.{drop-length, take-length, drop-drop, length-take-le, get_or-take}
 use native.Mathlib.Decide.{dec_lt}
-use lib.ListN.{length, get_or, set, take, drop, replicate, length-replicate, get_or-append}
+use lib.ListN.{length, get_or, set, take, drop, replicate, length-drop, length-replicate, get_or-append}
 use borrow.Author.Tests.{eqb-true, eq-eqb}
 use Rattle.file.specs.Lists.{onto, put_at}
 use Rattle.file.specs.declared.Refusal.{Refusal}
@@ -19,7 +19,7 @@ use Rattle.graph.specs.Soundness.{sound}
 use Rattle.queries.specs.Queries.{Lent}
 use Rattle.file.proofs.BoolLaws.{bool_cases, and_l, and_r, and_intro, split_lt}
 use Rattle.file.proofs.PutLaws.{put-none, put-onto}
-use Rattle.queries.proofs.BufferLaws.{answers_short, answers-whole, written_tail}
+use Rattle.queries.proofs.BufferLaws.{answers_short, answers-whole}
 use Rattle.graph.proofs.ListLaws.{any_default}
 use Rattle.walk.specs.Blocks.{Walked, blocks, block_numbers, whole_walk}
 use Rattle.walk.specs.Numbering.{at}
@@ -91,6 +91,14 @@ module _ (number from to : List ℕ) (m v t : ℕ) where
       lowest u p = omega (arith, I.least p.0 (omega (arith, p.1.0)) p.1, p.2)
 
 -- ---- the descent in the lent buffer
+
+-- a list written at the start of a part that ends where the buffer does
+written_tail : (r : ℕ) (l b x : List ℕ) → x ≡ onto l (take (length b - r) (drop r b)) → put_mid r (length b - r) b x ≡ put_at r l b
+written_tail r l b x e =
+    let d = drop r b in
+    let n : length b - r ≡ length d = sym (length-drop r b) in
+    let whole : x ≡ onto l d = e ∙ ap (onto l) (ap (λ (m : ℕ). take m d) n ∙ take-length d) in
+    rw (n, drop-length d, append-nil x, whole) (ap (λ (k : List ℕ). take r b ++ (l ++ k)) (drop-drop (length l) r b))
 
 put_first : (x : ℕ) (b : List ℕ) → 0 < length b → set b 0 x ≡ onto (x ∷ []) b
 put_first x [] h = absurd (omega arith)

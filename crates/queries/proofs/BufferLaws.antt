@@ -9,9 +9,9 @@ use native.Mathlib.Numerals.{add-one}
 use lib.Dec.{eqb}
 use lib.ListN.{length, get_or, take, drop, set, replicate, length-append, length-drop}
 use borrow.Rule.Slice.PartMut.{put_mid}
-use lib.Seq.{drop-length, take-length, length-take-le, drop-drop, slice}
+use lib.Seq.{take-length, length-take-le, drop-drop, slice}
 use borrow.Author.Tests.{lt-ltb, le-ltb, ne_eqb, eq-eqb}
-use Rattle.file.specs.Lists.{keep, cons_if, count_from, up_to, member, marked_from, members, is_empty, put_at, onto}
+use Rattle.file.specs.Lists.{keep, cons_if, count_from, up_to, member, marked_from, members, is_empty, put_at}
 use Rattle.file.specs.declared.Refusal.TheVariants.{ShortBuffer}
 use Rattle.queries.specs.Queries.{Lent, refuses, answers, remove}
 use Rattle.queries.specs.Marks.{kept, without, layer_by, FirstAt}
@@ -236,14 +236,6 @@ pub next-whole : (i k : ℕ) (layer freed b b1 b2 b3 : List ℕ) → i < length 
     → ◌≡◌ {A = Lent} (record { answer = Ok ((length layer - 1) + k); buffer = b3 }) (answers (without i layer ++ freed) b)
 next-whole i k layer freed b b1 b2 b3 h e s e1 e2 e3 = answers-whole (without i layer ++ freed) b b3 ((length layer - 1) + k) (omega (arith, next-length i layer freed h)) s
     (next-written i layer freed b b1 b2 b3 h (omega arith) e1 e2 e3)
-
--- a list written at the start of a part that ends where the buffer does
-pub written_tail : (r : ℕ) (freed b x : List ℕ) → x ≡ onto freed (take (length b - r) (drop r b)) → put_mid r (length b - r) b x ≡ put_at r freed b
-written_tail r freed b x e =
-    let d = drop r b in
-    let n : length b - r ≡ length d = sym (length-drop r b) in
-    let whole : x ≡ onto freed d = e ∙ ap (onto freed) (ap (λ (m : ℕ). take m d) n ∙ take-length d) in
-    rw (n, drop-length d, append-nil x, whole) (ap (λ (l : List ℕ). take r b ++ (freed ++ l)) (drop-drop (length freed) r b))
 
 pub length_some : (l : List ℕ) (k : ℕ) → k ≡ length l → (k ≡ 0 → ⊥) → is_empty l ≡ false
 length_some [] k e h = absurd (h e)
