@@ -9,9 +9,9 @@ use native.Mathlib.Numerals.{add-one}
 use lib.Dec.{eqb}
 use lib.ListN.{length, get_or, take, drop, set, replicate, length-append, length-drop}
 use borrow.Rule.Slice.PartMut.{put_mid}
-use lib.Seq.{take-length, length-take-le, drop-drop, slice}
+use lib.Seq.{drop-length, take-length, length-take-le, drop-drop, slice}
 use borrow.Author.Tests.{lt-ltb, le-ltb, ne_eqb, eq-eqb}
-use Rattle.file.specs.Lists.{keep, cons_if, count_from, up_to, member, marked_from, members, is_empty, put_at}
+use Rattle.file.specs.Lists.{keep, cons_if, count_from, up_to, member, marked_from, members, is_empty, put_at, onto}
 use Rattle.file.specs.declared.Refusal.TheVariants.{ShortBuffer}
 use Rattle.queries.specs.Queries.{Lent, refuses, answers, remove}
 use Rattle.queries.specs.Marks.{kept, without, layer_by, FirstAt}
@@ -19,7 +19,8 @@ use Rattle.file.proofs.BoolLaws.{bool_cases, clash_bool, split_lt}
 use Rattle.file.proofs.PutLaws.{put-none, put-put, length-put, put_one, put-onto}
 use Rattle.graph.proofs.ListLaws.{at-any, at_none}
 use Rattle.graph.proofs.CheckLaws.{unmarked}
-use Rattle.std.specs.Prelude.{Ok}
+use Rattle.std.specs.Prelude.{Ok, filter}
+use Rattle.std.specs.List.{range_with_len}
 
 -- ---- the entries that pass
 
@@ -110,66 +111,52 @@ answers_copied l b b' h s = answers-whole l b b' (length l) refl h (s ∙ ap (λ
 
 -- ---- the loops
 
--- the kept nodes below u are counted
-module _ (mark skip : List Bool) (n : ℕ) where
-  pub record Counting (k u : ℕ) : Type 0 where
-    pub fits : n ≤ 512
-    pub low : u ≤ n
-    pub count : k ≡ length (kept mark skip u)
+-- the kept nodes are what a filter of the numbers lets through
+kept-filter : (p : ℕ → Bool) (n k : ℕ) → filter p (range_with_len k n) ≡ keep p (count_from n k)
+unfolding keep count_from
+kept-filter p zero k = refl
+kept-filter p (suc n) k = ⊎_elim
+    (λ (t : p k ≡ true). rw (t, kept-filter p n (k + 1)) refl)
+    (λ (t : p k ≡ false). rw (t, kept-filter p n (k + 1)) refl)
+    (bool_cases (p k))
 
+pub kept_filtered : (mark skip : List Bool) (n : ℕ) → filter (λ u. get_or mark u false && not (get_or skip u false)) (range_with_len 0 n) ≡ kept mark skip n
+kept_filtered mark skip n = kept-filter (λ u. get_or mark u false && not (get_or skip u false)) n 0
+
+module _ (mark skip : List Bool) (n : ℕ) where
   abbrev P : ℕ → Bool
   P u = get_or mark u false && not (get_or skip u false)
 
-  pub counts_none : n ≤ 512 → Counting 0 0
-  unfolding keep count_from
-  counts_none f = record { fits = f; low = omega arith; count = refl }
-
-  pub counts_low : (k u : ℕ) → Counting k u → k ≤ u
-  counts_low k u C = omega (arith, C.count, keep_low P u)
-
-  pub counts_one : (k u : ℕ) (k' : ℕ) → Counting k u → u < n → (b : Bool) → b ≡ P u → b ≡ true → k' ≡ k + 1 → Counting k' (u + 1)
-  counts_one k u k' C h b e t s = record {
-    fits = C.fits;
-    low = omega arith;
-    count = omega (arith, s, C.count, ap length (keep_yes P u (sym e ∙ t)), length-append (keep P (up_to u)) (u ∷ []));
-  }
-
-  pub counts_not : (k u : ℕ) (k' : ℕ) → Counting k u → u < n → (b : Bool) → b ≡ P u → b ≡ false → k' ≡ k → Counting k' (u + 1)
-  counts_not k u k' C h b e t s = record { fits = C.fits; low = omega arith; count = omega (arith, s, C.count, ap length (keep_no P u (sym e ∙ t))) }
-
-  pub counts_all : (k u : ℕ) → Counting k u → n ≤ u → k ≡ length (kept mark skip n)
-  counts_all k u C h = let z : u ≡ n = omega (arith, C.low) in C.count ∙ ap (λ (x : ℕ). length (kept mark skip x)) z
-
-  -- and written
-  module _ (start : ℕ) (b₀ : List ℕ) where
+  -- the kept nodes below u are written
+  module _ (b₀ : List ℕ) where
     pub record Writing (b : List ℕ) (k u : ℕ) : Type 0 where
       pub fits : n ≤ 512
-      pub room : start + length (kept mark skip n) ≤ length b₀
+      pub room : length (kept mark skip n) ≤ length b₀
       pub low : u ≤ n
-      pub count : k ≡ start + length (kept mark skip u)
-      pub put : b ≡ put_at start (kept mark skip u) b₀
+      pub count : k ≡ length (kept mark skip u)
+      pub put : b ≡ put_at 0 (kept mark skip u) b₀
 
-    pub writes-none : n ≤ 512 → start + length (kept mark skip n) ≤ length b₀ → Writing b₀ start 0
+    pub writes-none : n ≤ 512 → length (kept mark skip n) ≤ length b₀ → Writing b₀ 0 0
     unfolding keep count_from
-    writes-none f r = record { fits = f; room = r; low = omega arith; count = omega arith; put = sym (put-none start b₀) }
+    writes-none f r = record { fits = f; room = r; low = omega arith; count = omega arith; put = sym (put-none 0 b₀) }
 
     module _ (b : List ℕ) (k u : ℕ) (W : Writing b k u) (h : u < n) (x : Bool) (e : x ≡ P u) where
-      writes_low : x ≡ true → start + length (kept mark skip u) < length b₀
+      writes_low : x ≡ true → length (kept mark skip u) < length b₀
       writes_low t =
           let z : u + 1 + (n - (u + 1)) ≡ n = omega arith in
           let f : length (kept mark skip (u + 1)) ≤ length (kept mark skip n) = rw z at (keep_fewer P (n - (u + 1)) (u + 1)) in
           omega (arith, f, W.room, ap length (keep_yes P u (sym e ∙ t)), length-append (keep P (up_to u)) (u ∷ []))
 
       pub writes_room : x ≡ true → k < length b
-      writes_room t = omega (arith, W.count, ap length W.put, length-put start (kept mark skip u) b₀ (omega (arith, writes_low t)), writes_low t)
+      writes_room t = omega (arith, W.count, ap length W.put, length-put 0 (kept mark skip u) b₀ (omega (arith, writes_low t)), writes_low t)
 
       pub writes_one : x ≡ true → (b' : List ℕ) (k' : ℕ) → b' ≡ set b k u → k' ≡ k + 1 → Writing b' k' (u + 1)
-      writes_one t b' k' s q = record {
+      writes_one t b' k' s q = let here : k ≡ 0 + length (kept mark skip u) = omega (arith, W.count) in record {
         fits = W.fits;
         room = W.room;
         low = omega arith;
         count = omega (arith, q, W.count, ap length (keep_yes P u (sym e ∙ t)), length-append (keep P (up_to u)) (u ∷ []));
-        put = s ∙ (λ i. set (W.put i) (W.count i) u) ∙ put_one start u (kept mark skip u) b₀ (writes_low t) ∙ ap (λ (l : List ℕ). put_at start l b₀) (sym (keep_yes P u (sym e ∙ t)));
+        put = s ∙ (λ i. set (W.put i) (here i) u) ∙ put_one 0 u (kept mark skip u) b₀ (omega (arith, writes_low t)) ∙ ap (λ (l : List ℕ). put_at 0 l b₀) (sym (keep_yes P u (sym e ∙ t)));
       }
 
       pub writes-not : x ≡ false → (b' : List ℕ) (k' : ℕ) → b' ≡ b → k' ≡ k → Writing b' k' (u + 1)
@@ -178,17 +165,17 @@ module _ (mark skip : List Bool) (n : ℕ) where
         room = W.room;
         low = omega arith;
         count = omega (arith, q, W.count, ap length (keep_no P u (sym e ∙ t)));
-        put = s ∙ W.put ∙ ap (λ (l : List ℕ). put_at start l b₀) (sym (keep_no P u (sym e ∙ t)));
+        put = s ∙ W.put ∙ ap (λ (l : List ℕ). put_at 0 l b₀) (sym (keep_no P u (sym e ∙ t)));
       }
 
     pub writes_long : (b : List ℕ) (k u : ℕ) → Writing b k u → length b ≡ length b₀
     writes_long b k u W =
         let z : u + (n - u) ≡ n = omega (arith, W.low) in
         let f : length (kept mark skip u) ≤ length (kept mark skip n) = rw z at (keep_fewer P (n - u) u) in
-        ap length W.put ∙ length-put start (kept mark skip u) b₀ (omega (arith, f, W.room))
+        ap length W.put ∙ length-put 0 (kept mark skip u) b₀ (omega (arith, f, W.room))
 
-    pub writes_all : (b : List ℕ) (k u : ℕ) → Writing b k u → n ≤ u → b ≡ put_at start (kept mark skip n) b₀
-    writes_all b k u W h = let z : u ≡ n = omega (arith, W.low) in W.put ∙ ap (λ (x : ℕ). put_at start (kept mark skip x) b₀) z
+    pub writes_all : (b : List ℕ) (k u : ℕ) → Writing b k u → n ≤ u → b ≡ onto (kept mark skip n) b₀
+    writes_all b k u W h = let z : u ≡ n = omega (arith, W.low) in W.put ∙ ap (λ (x : ℕ). put_at 0 (kept mark skip x) b₀) z ∙ put-onto (kept mark skip n) b₀
 
 -- v stands at no index up to i
 pub not_yet : (v i : ℕ) (l : List ℕ) → ((j : ℕ) → j < i → eqb v (get_or l j 0) ≡ false) → (get_or l i 0 ≡ v → ⊥) → (j : ℕ) → j < i + 1 → eqb v (get_or l j 0) ≡ false
@@ -236,6 +223,14 @@ pub next-whole : (i k : ℕ) (layer freed b b1 b2 b3 : List ℕ) → i < length 
     → ◌≡◌ {A = Lent} (record { answer = Ok ((length layer - 1) + k); buffer = b3 }) (answers (without i layer ++ freed) b)
 next-whole i k layer freed b b1 b2 b3 h e s e1 e2 e3 = answers-whole (without i layer ++ freed) b b3 ((length layer - 1) + k) (omega (arith, next-length i layer freed h)) s
     (next-written i layer freed b b1 b2 b3 h (omega arith) e1 e2 e3)
+
+-- the part of the buffer that the freed nodes are written to
+pub written_tail : (r : ℕ) (freed b x : List ℕ) → x ≡ onto freed (take (length b - r) (drop r b)) → put_mid r (length b - r) b x ≡ put_at r freed b
+written_tail r freed b x e =
+    let d = drop r b in
+    let n : length b - r ≡ length d = sym (length-drop r b) in
+    let whole : x ≡ onto freed d = e ∙ ap (onto freed) (ap (λ (m : ℕ). take m d) n ∙ take-length d) in
+    rw (n, drop-length d, append-nil x, whole) (ap (λ (l : List ℕ). take r b ++ (freed ++ l)) (drop-drop (length freed) r b))
 
 pub length_some : (l : List ℕ) (k : ℕ) → k ≡ length l → (k ≡ 0 → ⊥) → is_empty l ≡ false
 length_some [] k e h = absurd (h e)

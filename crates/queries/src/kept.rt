@@ -1,6 +1,6 @@
 // The nodes of an answer: those that are marked and not skipped.
 ghost use Rattle.std.specs.Prelude.{◌≡◌, false, not, ◌&&◌, ◌++◌, ◌+◌, ◌≤◌, ◌<◌, length, get_or};
-ghost use Rattle.file.specs.Lists.{put_at};
+ghost use Rattle.file.specs.Lists.{onto};
 ghost use Rattle.queries.specs.Marks.{kept, without, layer_by};
 ghost use Rattle.queries.specs.Queries.{answers};
 
@@ -25,29 +25,20 @@ impl Kept<'_> {
         self.mark[u] & !self.skip[u]
     }
 
-    // How many they are. A loop: tried as `filter(..).count()`, which proves, but `execution_blocked` takes 2 to 3 %
-    // longer.
+    // How many they are.
     pub(crate) fn count(&self) -> usize
         ensures { result ≡ length (kept self.now.mark.now self.now.skip.now self.now.n) }
     {
-        let mut k: usize = 0;
-        for u in 0..self.n {
-            if self.has(u) {
-                k += 1;
-            }
-        }
-        k
+        (0..self.n).filter(|u| self.has(*u)).count()
     }
 
-    // They go over the buffer's entries from start on. start stays: tried as a part of the buffer that begins there,
-    // which proves, but `new_front_layer` takes 3 to 4 % longer. A loop that counts the index: tried as a zip of
-    // `iter_mut` with a filter, and the proof did not close, as nothing is known of what was written through an adapter
-    // of `iter_mut`.
-    fn write(&self, buffer: &mut [u16], start: usize)
-        requires { start + length (kept self.now.mark.now self.now.skip.now self.now.n) ≤ length buffer.old }
-        ensures { buffer.new ≡ put_at start (kept self.now.mark.now self.now.skip.now self.now.n) buffer.old }
+    // They go over the buffer's first entries. A loop that counts the index: tried as a zip of `iter_mut` with a filter,
+    // and the proof did not close, as nothing is known of what was written through an adapter of `iter_mut`.
+    fn write(&self, buffer: &mut [u16])
+        requires { length (kept self.now.mark.now self.now.skip.now self.now.n) ≤ length buffer.old }
+        ensures { buffer.new ≡ onto (kept self.now.mark.now self.now.skip.now self.now.n) buffer.old }
     {
-        let mut k: usize = start;
+        let mut k: usize = 0;
         for u in 0..self.n {
             if self.has(u) {
                 // No loss: u is below 512.
@@ -66,7 +57,7 @@ impl Kept<'_> {
         if buffer.len() < k {
             return Err(Refusal::ShortBuffer);
         }
-        self.write(buffer, 0);
+        self.write(buffer);
         Ok(k)
     }
 
@@ -88,7 +79,7 @@ impl Kept<'_> {
         }
         buffer[..i].copy_from_slice(&layer[..i]);
         buffer[i..rest].copy_from_slice(&layer[i + 1..]);
-        self.write(buffer, rest);
+        self.write(&mut buffer[rest..]);
         Ok(rest + k)
     }
 

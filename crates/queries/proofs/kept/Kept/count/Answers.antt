@@ -1,16 +1,13 @@
-use Rattle.queries.proofs.BufferLaws.{counts_none, counts_low, counts_one, counts_not}
-use native.Mathlib.Omega.{arith}
+use Rattle.std.proofs.Common.{ap, ◌∙◌, ◌&&◌, not, false, ℕ, ◌≡◌, ◌-◌, get_or, length, arith, rules}
+use Rattle.std.proofs.lemmas.Iterator.{YieldsList-from_range}
+use Rattle.std.proofs.lemmas.Iterator.Consumers.{count_from_yields_List, YieldsList-from_filter}
+use Rattle.queries.proofs.BufferLaws.{kept_filtered}
 use Rattle.queries.proofs.kept.Kept.count.Goals as goal
-use Rattle.queries.proofs.kept.Kept.count.Goals.{then-has, else-has}
 
-pub loop-u-init : goal.loop-u-init
-loop-u-init c = counts_none _ _ _ c.args.self.now.few
-
-pub overflow_add-k : goal.overflow_add-k
-overflow_add-k c = omega (arith, counts_low _ _ _ _ _ c.loop-u.invariant, c.loop-u-test.true, c.loop-u.invariant.fits)
-
-pub loop-u-preserved : goal.loop-u-preserved
-loop-u-preserved c = elim c.if-has.branch [
-  | then-has w ↦ counts_one _ _ _ _ _ _ c.loop-u.invariant c.loop-u-test.true _ c.has.ensures w.if-has.true w.k-is
-  | else-has w ↦ counts_not _ _ _ _ _ _ c.loop-u.invariant c.loop-u-test.true _ c.has.ensures w.if-has.false w.k-is
-]
+pub returns : goal.returns
+returns c =
+    let k = c.args.self.now in
+    let test = λ (u : ℕ). get_or k.mark.now u false && not (get_or k.skip.now u false) in
+    let n : k.n - 0 ≡ k.n = omega arith in
+    count_from_yields_List c.filter.result _ c.count.ensures.ran (YieldsList-from_filter _ test (YieldsList-from_range 0 k.n k.n c.filter.ensures.source n) c.filter.ensures.closure (λ x b q k. search (rules)))
+    ∙ ap length (kept_filtered k.mark.now k.skip.now k.n)
