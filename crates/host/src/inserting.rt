@@ -1,6 +1,4 @@
-// The empty graph, the load of a file, a single insertion, each in either way, and soundness. Both loads have the same
-// lines: tried with one function, but the graph that a shared function returns is copied once more, so that a load is
-// slower.
+// The empty graph, the load of a file, a single insertion, each in either way, and soundness.
 ghost use Rattle.std.specs.Prelude.{◌≡◌};
 ghost use Rattle.graph.specs.Dag.{empty};
 ghost use Rattle.links.specs.declared.LoadingRule.TheVariants.{FarAll};
@@ -22,11 +20,11 @@ pub extern "C" fn sawhekonu_new() -> HostDag
     HostDag::from(graph)
 }
 
-#[unsafe(no_mangle)]
-pub extern "C" fn sawhekonu_load(file: &[u8]) -> HostGraph
-    ensures { result ≡ graph_loaded (load file.now) }
+// The graph of a file.
+fn load_file(rule: LoadingRule, file: &[u8]) -> HostGraph
+    ensures { result ≡ graph_loaded (load_by rule file.now) }
 {
-    let x = insertion::load_by(LoadingRule::NearAll, file);
+    let x = insertion::load_by(rule, file);
     HostGraph {
         answer: HostAnswer::from(x.answer),
         graph: HostDag::from(x.graph),
@@ -34,14 +32,17 @@ pub extern "C" fn sawhekonu_load(file: &[u8]) -> HostGraph
 }
 
 #[unsafe(no_mangle)]
+pub extern "C" fn sawhekonu_load(file: &[u8]) -> HostGraph
+    ensures { result ≡ graph_loaded (load file.now) }
+{
+    load_file(LoadingRule::NearAll, file)
+}
+
+#[unsafe(no_mangle)]
 pub extern "C" fn sawhekonu_load_both_ends(file: &[u8]) -> HostGraph
     ensures { result ≡ graph_loaded (load_by FarAll file.now) }
 {
-    let x = insertion::load_by(LoadingRule::FarAll, file);
-    HostGraph {
-        answer: HostAnswer::from(x.answer),
-        graph: HostDag::from(x.graph),
-    }
+    load_file(LoadingRule::FarAll, file)
 }
 
 // The graph after a record.
