@@ -56,8 +56,8 @@ pub enum InvolvedQubits {
     Set(u64),
 }
 
-// The registers that a record involves (the source's InvolvedClassical), by name: a Set with the count of its entries, a
-// definition with its length.
+// The registers that a record involves (the source's InvolvedClassical), by name: a Set with the count of its entries,
+// a definition with its length.
 #[derive(Clone, Copy, Debug, PartialEq, Eq)]
 pub enum InvolvedClassical {
     None,
@@ -75,7 +75,8 @@ pub struct RegisterKey {
 }
 
 // What a record says. The kind is a byte and no enum: a handed-in graph and C hold kinds 6 to 255 too, so that an enum
-// would become the number again at each use.
+// would become the number again at each use. front is byte 0, a bool here and wherever it is handed on: an enum would
+// be tested by the same `if`.
 #[derive(Clone, Copy, Debug, PartialEq, Eq)]
 pub struct Record {
     pub front: bool,

@@ -1,5 +1,6 @@
-// Runs of the circuit file: every prefix and every change of one byte of a small good file, the limits, and slack between the parts.
-// Each distinct answer is printed with how often it came; tools/file_answers.py prints the same from the documents alone.
+// Runs of the circuit file: every prefix and every change of one byte of a small good file, the limits, and slack
+// between the parts. Each distinct answer is printed with how often it came; tools/file_answers.py prints the same
+// from the documents alone.
 #![tactic(auto)]
 
 ghost use Rattle.std.specs.Prelude.{◌<◌, ◌≤◌};
@@ -42,16 +43,16 @@ fn parse_all(file: &[u8]) -> Result<(), Refusal> {
     Ok(())
 }
 
-// What is tried with a file: parsing all its records, or reading one. No Option of a number: None would not say that all
-// are parsed.
+// What is tried with a file: parsing all its records, or reading one. No Option of a number: None would not say that
+// all are parsed.
 #[derive(Clone, Copy)]
 enum Trial {
     Parse,
     Read(usize),
 }
 
-// How often each answer came, on files of seven records: slot 0 for acceptance, else 8 times the number plus the pair or
-// record, 7 where there is none. A table, since a map would need a heap.
+// How often each answer came, on files of seven records: slot 0 for acceptance, else 8 times the number plus the pair
+// or record, 7 where there is none. A table, since a map would need a heap.
 #[derive(Drop)]
 struct Counts([u32; 104]);
 
@@ -104,6 +105,7 @@ impl Counts {
     }
 }
 
+// The answer of a slot, from its numbers: the refusal itself is not kept.
 fn print_answer(rt: &impl Print, number: usize, at: usize) -> io::Result<()> {
     if number == 0 {
         print!(rt; "accepted")?;
@@ -149,7 +151,8 @@ fn zero_records(n: u16) -> [u8; 9237]
     file
 }
 
-// A file of one record in a larger array: its length, count byte c, then the entries (1, 0), (1, 1), .. up to n of them.
+// A file of one record in a larger array: its length, count byte c, then the entries (1, 0), (1, 1), .. up to n of
+// them.
 fn entry_list(c: u8, n: u8, length: u8) -> [u8; 99]
     requires { n ≤ 26 }
 {
@@ -166,8 +169,8 @@ fn entry_list(c: u8, n: u8, length: u8) -> [u8; 99]
     file
 }
 
-// One line: what it is, then the answer to the first n bytes. The length stands beside: that a part such as `&full[..n]`
-// of an array that a call made is within it was tried in the callers, and not proved.
+// One line: what it is, then the answer to the first n bytes. The length stands beside: that a part such as
+// `&full[..n]` of an array that a call made is within it was tried in the callers, and not proved.
 fn print_limit(rt: &impl Print, title: &str, bytes: &[u8], n: usize) -> io::Result<()> {
     let Some(file) = bytes.get(..n) else {
         return Ok(());
@@ -214,8 +217,8 @@ fn print_records(rt: &impl Print) -> io::Result<()> {
     Ok(())
 }
 
-// One line: a count byte, how many entries there are, what else is to say, and the answer to a record of such a length. What
-// n is at most is said three times: a type for it would have to be made at each of the calls.
+// One line: a count byte, how many entries there are, what else is to say, and the answer to a record of such a
+// length. What n is at most is said three times: a type for it would have to be made at each of the calls.
 fn print_list(rt: &impl Print, c: u8, n: u8, length: u8, more: &str) -> io::Result<()>
     requires { n ≤ 26 }
 {
@@ -277,7 +280,8 @@ fn two_parts(first: (u16, u16), second: (u16, u16)) -> [u8; 131070] {
     file
 }
 
-// Where the reader finds record i of a file.
+// Where the reader finds record i of a file. By a match: a Display of Place would have words that this line alone
+// needs.
 fn print_place(rt: &impl Print, file: &[u8], i: usize) -> io::Result<()> {
     match file::locate_record(file, i) {
         Ok(Place { offset, length }) => {

@@ -1,12 +1,10 @@
 // The library for C and Rust: schedule, load, insertion, soundness, conversions, queries, accessors, walk and chain
-// under a C name; include/sawhekonu.h is its header.
-// Graph, walk and answers cross by value as #[repr(C)] structs, a slice as its pointer and length, a node number as
-// usize, a mark as a byte. What the caller hands in is tested: bytes that are no marks are refused, as is a number that
-// is no node's. What is left to the caller is what C cannot say: each pointer has its length's elements, and lent slices
-// do not overlap.
-// Each call tests its graph by the same two lines, and a node number by two more. One function over the call that
-// follows would take a closure that lends the buffer on, whose clauses say no less than the lines, and which did not
-// prove.
+// under a C name; include/sawhekonu.h is its header. Graph, walk and answers cross by value as #[repr(C)] structs, a
+// slice as its pointer and length, a node number as usize, a mark as a byte. What the caller hands in is tested: bytes
+// that are no marks are refused, as is a number that is no node's. What is left to the caller is what C cannot say:
+// each pointer has its length's elements, and lent slices do not overlap. Each call tests its graph by the same two
+// lines, and a node number by two more. One function over the call that follows would take a closure that lends the
+// buffer on, whose clauses say no less than the lines, and which did not prove.
 #![tactic(auto)]
 
 mod accessing;
@@ -24,7 +22,8 @@ mod walking;
 use accessors::KeptNode;
 use graph::{Commuting, Edges, NodeIndex, Nodes, Registers};
 
-// One end of the circuit; a byte of the block is a mark, 0 or 1.
+// One end of the circuit; a byte of the block is a mark, 0 or 1. A type of C's own, as the graph and the walk below:
+// one type over what a mark is would run through every contract of graph.
 #[repr(C)]
 #[derive(Clone, Copy)]
 pub struct HostEnd {

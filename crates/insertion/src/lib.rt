@@ -20,7 +20,8 @@ pub struct Inserted {
     pub graph: CircuitDag,
 }
 
-// What a load answers, and the graph: a struct, and no Result, since a refused load promises the empty graph.
+// What a load answers, and the graph: a struct, and no Result, since a refused load promises the empty graph. Two
+// types, as document 01 has two calls, of which one finds a node: a parameter for that would be written at each use.
 #[derive(Clone, Copy)]
 pub struct Loaded {
     pub answer: Result<(), Refusal>,

@@ -1,4 +1,5 @@
-// The two ends of one insertion. near is the end of the insertion (last at the back, first at the front), far the other.
+// The two ends of one insertion. near is the end of the insertion (last at the back, first at the front), far the
+// other.
 ghost use Rattle.std.specs.Prelude.{◌≡◌, true, false, cond, ◌&&◌, List, [], map, ℕ, ◌+◌, ◌≤◌, ◌<◌, ltb, length, set, replicate};
 ghost use Rattle.file.specs.Lists.{any_of, add};
 ghost use Rattle.graph.specs.Dag.{present, or_else, node, no_end};
@@ -84,8 +85,8 @@ impl WorkingEnd {
         Node::named(self.end.all)
     }
 
-    // The entry of qubit q in the map from qubit to node. Linking reads and writes such a map by a MapQubit, so that a node
-    // handed over as a qubit is a type error.
+    // The entry of qubit q in the map from qubit to node. Linking reads and writes such a map by a MapQubit, so that a
+    // node handed over as a qubit is a type error.
     fn node_at(&self, q: MapQubit) -> Option<Node>
         ensures { number_of result ≡ entry_at self.now.node q.number }
     {
@@ -148,7 +149,7 @@ impl WorkingEnd {
         }
     }
 
-    // Whether the map has a qubit.
+    // Whether the map has a qubit. 65535 here and below, where the array of the graph is gone over entry by entry.
     fn has_qubit(&self) -> bool
         ensures { result ≡ any_of present self.now.node }
     {
@@ -177,7 +178,8 @@ fn clear_block(block: &mut [bool; 512], members: Members)
     }
 }
 
-// The entries with a node become v, and their nodes join the others.
+// The entries with a node become v, and their nodes join the others. That these are none before is asked here and in
+// the three functions that lead here: an empty Others is no type of its own, since the same one is filled next.
 fn map_to(entries: &mut [u16], v: NodeIndex, others: &mut Others)
     requires few { length entries.old ≤ 64 }
     requires none { others.old ≡ [] }
@@ -327,7 +329,8 @@ fn join_end(
     }
 }
 
-// v joins the graph's two ends: at the back near is last, at the front first. front stays a bool, as in the file's record.
+// v joins the graph's two ends: at the back near is last, at the front first. front stays a bool, as in the file's
+// record.
 pub(crate) fn join_record(
     first: &mut WorkingEnd,
     last: &mut WorkingEnd,

@@ -17,8 +17,8 @@ use crate::{LinkedRecords, LoadingRule};
 use file::{InvolvedQubits, Refusal};
 use graph::{Edges, End, NodeIndex};
 
-// Why record i of a file is not taken, whose bytes were refused with c: the refusal of its place, else c with its number.
-// Only a record that was not parsed is asked, so that one that is taken is located once.
+// Why record i of a file is not taken, whose bytes were refused with c: the refusal of its place, else c with its
+// number. Only a record that was not parsed is asked, so that one that is taken is located once.
 fn record_refusal(file: &[u8], i: usize, c: Refusal) -> Refusal
     ensures { result ≡ refusal_from (pair_place file.now i) c i }
 {
@@ -55,7 +55,7 @@ fn links_kept(v: NodeIndex, edges: Edges, first: End, last: End, r: Refusal) -> 
     }
 }
 
-// Whether an entry is absent or a node below n.
+// Whether an entry of the graph's arrays is absent (65535) or a node below n.
 fn is_below(x: u16, n: usize) -> bool
     ensures { result ≡ if_present (λ u. ltb u n) x }
 {

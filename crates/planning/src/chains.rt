@@ -75,7 +75,7 @@ pub fn chain(dag: CircuitDag, buffer: &mut [u16]) -> Result<usize, Refusal>
         return Ok(0);
     }
     // A literal: a function that makes it for every crate would ask that the graph is sound, and a public one asks
-    // nothing.
+    // nothing: made total, it would test once more what the walk has tested.
     let arcs = Arcs {
         near: &dag.edges.from,
         far: &dag.edges.to,

@@ -32,8 +32,8 @@ impl Kept<'_> {
         (0..self.n).filter(|u| self.has(*u)).count()
     }
 
-    // They go over the buffer's first entries. A loop that counts the index: tried as a zip of `iter_mut` with a filter,
-    // and the proof did not close, as nothing is known of what was written through an adapter of `iter_mut`.
+    // They go over the buffer's first entries. A loop that counts the index: tried as a zip of `iter_mut` with a
+    // filter, and the proof did not close, as it is not known which slots were written through a zip with a filter.
     fn write(&self, buffer: &mut [u16])
         requires { length (kept self.now.mark.now self.now.skip.now self.now.n) ≤ length buffer.old }
         ensures { buffer.new ≡ onto (kept self.now.mark.now self.now.skip.now self.now.n) buffer.old }

@@ -16,6 +16,7 @@ pub use queries::{
 };
 
 // Node or record numbers in an order: the first count of the list. A list of its own length would stand on the heap.
+// Not graph's Commuting, which has such fields and is a part of the graph, of nodes that ascend.
 #[derive(Clone, Copy)]
 pub struct Order {
     pub count: usize,

@@ -1,6 +1,6 @@
-// Circuits and queries from standard input, and what the library answers. The file stdout beside this crate was written
-// from the original Rust's answers to the same circuits (README.md), in the same form: sets ascending, appended nodes of
-// a layer ascending.
+// Circuits and queries from standard input, and what the library answers. The file stdout beside this crate was
+// written from the original Rust's answers to the same circuits (README.md), in the same form: sets ascending,
+// appended nodes of a layer ascending.
 #![tactic(auto)]
 
 ghost use Rattle.std.specs.Prelude.{◌<◌, ◌≤◌, length};
@@ -70,7 +70,7 @@ fn print_marks(rt: &impl Print, title: &str, marks: &[bool; 512]) -> io::Result<
     println!(rt)
 }
 
-// A map from qubit to node: each qubit and its node.
+// A map from qubit to node: each qubit and its node. 65535 is none, here and below, as the graph's arrays have it.
 fn print_map(rt: &impl Print, title: &str, map: &[u16; 64]) -> io::Result<()> {
     print!(rt; "{title} map:")?;
     for (q, v) in map.iter().enumerate() {
@@ -233,8 +233,8 @@ fn print_queries(
     print_answers(rt, g, NodeIndex(u16::from(v)), &done[..k], &line[..m])
 }
 
-// Each query is a node, the executed list, the layer and the walk's current nodes. A loop: what a query takes is known only
-// when its three lists have been cut.
+// Each query is a node, the executed list, the layer and the walk's current nodes. A loop: what a query takes is known
+// only when its three lists have been cut.
 fn replay_queries(rt: &impl Print, g: CircuitDag, queries: &[u8]) -> io::Result<()> {
     let mut rest = queries;
     while let Some((v, lists)) = rest.split_first() {

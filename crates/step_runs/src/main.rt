@@ -1,8 +1,8 @@
-// Steps of the walk, and what a graph holds at single places, on the circuits of query_runs: steps with no buffer and with
-// a long one, from the start and from a current node that is there or absent; nodes, qubits and register keys; each on a
-// graph and on one that is not sound. On standard input each circuit file stands behind its length in two bytes,
-// little-endian. Beside a step stand the sizes of its two sets and the start of the lent buffer, which held 9999.
-// tools/graph_answers.py computes the same from document 01.
+// Steps of the walk, and what a graph holds at single places, on the circuits of query_runs: steps with no buffer and
+// with a long one, from the start and from a current node that is there or absent; nodes, qubits and register keys;
+// each on a graph and on one that is not sound. On standard input each circuit file stands behind its length in two
+// bytes, little-endian. Beside a step stand the sizes of its two sets and the start of the lent buffer, which held
+// 9999. tools/graph_answers.py computes the same from document 01.
 #![tactic(auto)]
 
 use file::{Refusal, RegisterKey};
@@ -19,6 +19,8 @@ fn probe_get(rt: &impl Print, g: CircuitDag, v: u16) -> io::Result<()> {
     }
 }
 
+// By a match, as is a step's answer below: Result and Option are the library's, so that no Display of ours can be
+// theirs.
 fn print_operation(rt: &impl Print, x: Result<Option<NodeIndex>, Refusal>) -> io::Result<()> {
     match x {
         Ok(Some(v)) => print!(rt; " {}", v.0),
@@ -138,9 +140,9 @@ fn probe(rt: &impl Print, g: CircuitDag, v: u16) -> io::Result<()> {
     probe_entries(rt, g, v)
 }
 
-// The graph of a circuit file, the empty one where it is refused, then the same with one back insertion too many, which is
-// not sound. query_runs and step_runs have the same lines, each with a probe of its own: a closure that prints would be
-// called twice, and its clauses would say no less.
+// The graph of a circuit file, the empty one where it is refused, then the same with one back insertion too many,
+// which is not sound. query_runs and step_runs have the same lines, each with a probe of its own: a closure that
+// prints would be called twice, and its clauses would say no less.
 fn probe_load(rt: &impl Print, bytes: &[u8]) -> io::Result<()> {
     let loaded = insertion::load(bytes);
     let mut g = loaded.graph;

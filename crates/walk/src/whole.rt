@@ -109,7 +109,7 @@ fn count_blocks(num: &[u16]) -> usize
 }
 
 // The arcs that lead as a graph's edges do. The queries have the same function for themselves: it asks for ends that
-// are nodes, and a public one asks nothing.
+// are nodes, and a public one asks nothing: made total, it would test once more what the caller has tested.
 fn along(g: &CircuitDag) -> Arcs<'_>
     requires { EndsBelow g.now.edges.to g.now.edges.from g.now.edges.count }
     ensures near { result.near.now ≡ g.now.edges.to }
@@ -182,6 +182,8 @@ fn take_waiting(arcs: &Arcs, num: &[u16; 512], found: &mut [bool; 512])
 }
 
 // The first block before a walk has started; afterwards the successors of the current nodes that are blocked by none.
+// By `started` and no second function: the caller would choose by the same `if`, and would copy the first block
+// besides.
 fn find_block(g: CircuitDag, current: &[bool; 512], all: &[bool; 512], started: bool) -> [bool; 512]
     requires { sound g ≡ true }
     ensures { members result ≡ cond started (free_after g current.now all.now) (members g.first.block) }
