@@ -104,7 +104,9 @@ impl WorkingEnd {
 
     // The source, where there is one, leaves the block, and v joins it.
     fn replace(&mut self, source: Option<Node>, v: Node)
-        ensures { self.new ≡ record self.old { block = set (cond (present (number_of source)) (set self.old.block (number_of source) false) self.old.block) v.number.0 true } }
+        ensures { self.new ≡ record self.old {
+          block = set (cond (present (number_of source)) (set self.old.block (number_of source) false) self.old.block) v.number.0 true;
+        } }
     {
         if let Some(u) = source {
             self.end.block[u.index()] = false;
@@ -252,7 +254,9 @@ fn link_qubit(
 )
     requires { length others.old < 64 }
     ensures near { near.new ≡ near_after near.old q.number.0 v.number.0 }
-    ensures far { far.new ≡ record far.old { node = cond (present (entry_at near.old.node q.number)) far.old.node (set far.old.node q.number.0 fresh.number.0) } }
+    ensures far { far.new ≡ record far.old {
+      node = cond (present (entry_at near.old.node q.number)) far.old.node (set far.old.node q.number.0 fresh.number.0);
+    } }
     ensures others { others.new ≡ cond (present (source near.old q.number.0)) (add (source near.old q.number.0) others.old) others.old }
 {
     let old = near.node_at(q);

@@ -36,7 +36,8 @@ impl Definition {
     }
 }
 
-// A register map, an array for each part of an entry as C reads it, and, for keys, where they may stand: a guess, compared with the key before use; nothing is promised of it.
+// A register map, an array for each part of an entry as C reads it, and, for keys, where they may stand: a guess, compared
+// with the key before use; nothing is promised of it.
 #[derive(Drop)]
 pub(crate) struct RegisterMap {
     pub(crate) entries: Registers,
