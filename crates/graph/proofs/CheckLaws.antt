@@ -7,16 +7,17 @@ use Prim.Native.Nat.{ℕ, zero, suc, ◌+◌, ◌-◌, ◌*◌, ◌/◌, ◌%◌
 use native.Mathlib.Omega.{arith}
 use native.Mathlib.Decide.{dec_lt, ℕ_discrete}
 use Rattle.std.proofs.Common.{Option, Some, None}
-use lib.Dec.{eqb, ltb, leb}
+use lib.Dec.{eqb, ltb}
 use lib.IntN.{ℤ, pos, negsuc}
 use lib.Signed.{mag, non_neg, lt_z}
 use lib.ListN.{length, get_or, set, take, drop, replicate, length-set, length-replicate, get_or-eq_default}
-use Rattle.std.specs.List.{IsAllAdjacentAnswer}
+use Rattle.std.specs.List.{IsAllAdjacentAnswer, zip}
+use Rattle.std.proofs.lemmas.Slice.Zip.{length-zip, get_or-zip}
 use Rattle.std.proofs.lemmas.List.{get_or-drop, get_or-take, length-drop}
 use lib.Seq.{get_or-set_same, get_or-set_other}
 use mir.Syntax.{w16}
 use mir.Val.{to_z, of_z}
-use borrow.Author.Tests.{ltb-true, leb-true, lt-ltb, eqb-true, eq-eqb, not-true as not-flip}
+use borrow.Author.Tests.{ltb-true, lt-ltb, eqb-true, eq-eqb, not-true as not-flip}
 use Rattle.file.specs.Lists.{any_of, all_of, distinct, up_to, members}
 use Rattle.graph.specs.declared.CircuitDag.{CircuitDag}
 use Rattle.graph.specs.declared.Edges.{Edges}
@@ -28,8 +29,8 @@ use Rattle.graph.specs.Soundness.{same_place, ascends, keys_distinct}
 use Rattle.file.proofs.BoolLaws.{bool_cases, clash_bool, not-true, bool_ext, and_l, and_r, and_intro, or_cases}
 use Rattle.file.proofs.BoolLaws.{flip-not, split_lt}
 use Rattle.graph.proofs.BitLaws.{mark_at, MarkedBits, bits_more, no_bits}
-use Rattle.graph.proofs.ListLaws.{at-any, any_at, up_to_all, all_up_to, up_to-distinct, distinct-up_to, all_none, all_grows, distinct_none, distinct_grows, distinct_broken}
-use Rattle.graph.proofs.ListLaws.{up_to-any, any-up_to, members_all, all_members}
+use Rattle.graph.proofs.ListLaws.{at-any, any_at, at_all, all_at, up_to_all, all_up_to, up_to-distinct, distinct-up_to, all_none, all_grows, distinct_none, distinct_grows, distinct_broken}
+use Rattle.graph.proofs.ListLaws.{up_to-any, any-up_to, up_to-at, length-up_to, members_all, all_members}
 use Rattle.graph.proofs.PlaceLaws.{place_read}
 use Rattle.graph.proofs.SoundnessLaws.{same_told, told_same, ascends_told, told_ascends, all_taken, taken_all}
 
@@ -186,19 +187,25 @@ marks_below block n long =
     absurd (omega (arith, ltb-true (m + r.0) n low, length-drop m block, r.1)))))
 
 -- each mark has p, exactly where each member has
-pub marks_have : (block : List Bool) (p : ℕ → Bool) → length block ≡ 512
-    → all_of (λ (v : ℕ). not (get_or block v false) || p v) (map (λ (v : ℕ). v) (up_to 512)) ≡ all_of p (members block)
-marks_have block p long =
-    let q : ℕ → Bool = λ v. not (get_or block v false) || p v in
-    bool_ext (all_of q (map (λ (v : ℕ). v) (up_to 512))) (all_of p (members block))
-    (λ h. members_all p block (λ u e. ⊎_elim
+pub marks_have : (block marks : List Bool) (p : ℕ → Bool) → length block ≡ 512 → length marks ≡ 512 → ((v : ℕ) → get_or marks v false ≡ p v)
+    → all_of (λ w. not w.0 || w.1) (zip block marks) ≡ all_of p (members block)
+marks_have block marks p long far known =
+    let q : Bool × Bool → Bool = λ w. not w.0 || w.1 in
+    let pair : (v : ℕ) → v < 512 → get_or (zip block marks) v (false, false) ≡ (get_or block v false, get_or marks v false) =
+    λ v k. get_or-zip block marks v (false, false) (omega arith) (omega arith) in
+    let many : length (zip block marks) ≡ 512 = omega (arith, length-zip block marks) in
+    bool_ext (all_of q (zip block marks)) (all_of p (members block))
+    (λ h. members_all p block (λ u e.
+    let k : u < 512 = omega (arith, mark_low block u e, long) in
+    let told : q (get_or block u false, get_or marks u false) ≡ true = ap q (sym (pair u k)) ∙ all_at q (zip block marks) (false, false) h u (omega arith) in
+    ⊎_elim
     (λ (x : not (get_or block u false) ≡ true). absurd (clash_bool e (not-flip (get_or block u false) x)))
-    (λ (x : p u ≡ true). x)
-    (or_cases (not (get_or block u false)) (p u) (all_up_to q (λ (v : ℕ). v) 512 h u (omega (arith, mark_low block u e, long))))))
-    (λ h. up_to_all q (λ (v : ℕ). v) 512 (λ u k. ⊎_elim
-    (λ (e : get_or block u false ≡ true). rw e (all_members p block h u e))
-    (λ (e : get_or block u false ≡ false). rw e refl)
-    (bool_cases (get_or block u false))))
+    (λ (x : get_or marks u false ≡ true). sym (known u) ∙ x)
+    (or_cases (not (get_or block u false)) (get_or marks u false) told)))
+    (λ h. at_all q (zip block marks) (false, false) (λ v k. ap q (pair v (omega arith)) ∙ ⊎_elim
+    (λ (e : get_or block v false ≡ true). rw (e, known v) (all_members p block h v e))
+    (λ (e : get_or block v false ≡ false). rw e refl)
+    (bool_cases (get_or block v false))))
 
 -- ---- edges in any order: each has marked its bit
 
@@ -331,16 +338,19 @@ stamps_more {x} {block} {es} {stamps} {i} I w c fits hw hc low new =
 -- ---- the commuting list
 
 -- where each entry is below the next, the list ascends
-pub adjacent_ascend : (l : List ℕ) (r : Bool) → IsAllAdjacentAnswer (λ x y b. b ≡ ltb x y) l r → r ≡ ascends l
-adjacent_ascend l true h = sym (told_ascends l (λ i j a k. rises i (j - suc i) j (omega arith) k))
+pub adjacent_rise : (l : List ℕ) → ((i d : ℕ) → i + 1 < length l → ltb (get_or l i d) (get_or l (i + 1) d) ≡ true) → ascends l ≡ true
+adjacent_rise l h = told_ascends l (λ i j a k. rises i (j - suc i) j (omega arith) k)
   where
     rises : (i d j : ℕ) → j ≡ suc i + d → j < length l → get_or l i 0 < get_or l j 0
-    rises i zero j e k = let z : j ≡ i + 1 = omega arith in rw z (ltb-true _ _ (sym (h i 0 (omega arith))))
+    rises i zero j e k = let z : j ≡ i + 1 = omega arith in rw z (ltb-true _ _ (h i 0 (omega arith)))
     rises i (suc d) j e k =
         let z : j ≡ (suc i + d) + 1 = omega arith in
         let a : get_or l i 0 < get_or l (suc i + d) 0 = rises i d (suc i + d) refl (omega arith) in
-        let b : get_or l (suc i + d) 0 < get_or l ((suc i + d) + 1) 0 = ltb-true _ _ (sym (h (suc i + d) 0 (omega arith))) in
+        let b : get_or l (suc i + d) 0 < get_or l ((suc i + d) + 1) 0 = ltb-true _ _ (h (suc i + d) 0 (omega arith)) in
         rw z (omega (arith, a, b))
+
+pub adjacent_ascend : (l : List ℕ) (r : Bool) → IsAllAdjacentAnswer (λ x y b. b ≡ ltb x y) l r → r ≡ ascends l
+adjacent_ascend l true h = sym (adjacent_rise l (λ i d k. sym (h i d k)))
 adjacent_ascend l false h = sym (not-true (λ q.
     let a = ascends_told l q h.0 (h.0 + 1) (omega arith) h.1 in
     clash_bool (lt-ltb _ _ a) (sym (h.2 0))))
@@ -395,25 +405,10 @@ module _ {r : Registers} {cells : List Bool} {i : ℕ} (I : KeysApart r cells i)
         clash_bool (and_intro (get_or cells c false) (is_repeated r i) d t) s));
   }
 
--- keys whose numbers ascend: those passed are below `next`
-
-pub record KeysAscend (r : Registers) (ascend : Bool) (next i : ℕ) : Type 0 where
-  pub under : ascend ≡ true → (j : ℕ) → j < i → key_number r j < next
-  pub apart : ascend ≡ true → distinct same_key (map (entry_at r) (up_to i)) ≡ true
-
-pub ascend_begin : (r : Registers) → KeysAscend r true 0 0
-ascend_begin r = record { under = λ q j k. absurd (omega arith); apart = λ q. distinct_none same_key (entry_at r) }
-
-pub ascend_more : {r : Registers} {ascend : Bool} {next i : ℕ} → KeysAscend r ascend next i → (key after : ℕ) → key ≡ key_number r i → key < after
-    → KeysAscend r (ascend && leb next key) after (i + 1)
-ascend_more {r} {ascend} {next} {i} I key after e o = record {
-  under = λ q j l. ⊎_elim
-      (λ (x : j ≡ i). rw (x, ← e) (omega arith))
-      (λ (x : j < i). omega (arith, I.under (and_l ascend (leb next key) q) j x, leb-true next key (and_r ascend (leb next key) q)))
-      (split_lt j i l);
-  -- the same key would have the same number
-  apart = λ q. distinct_grows same_key (entry_at r) i (I.apart (and_l ascend (leb next key) q)) (not-true (λ t.
-      let w = any-up_to (same_entry r i) (entry_at r) i t in
-      let p = key_parts r w.0 i w.2 in
-      absurd (omega (arith, p.0, p.1, e, I.under (and_l ascend (leb next key) q) w.0 w.1, leb-true next key (and_r ascend (leb next key) q)))));
-}
+-- keys whose numbers ascend are distinct
+pub ascend_distinct : (r : Registers) → ascends (map (key_number r) (up_to r.count)) ≡ true → keys_distinct r ≡ true
+ascend_distinct r h = up_to-distinct same_key (entry_at r) r.count (λ i j a k. not-true (λ e.
+    let n = key_number r in
+    let p = key_parts r i j e in
+    let o = ascends_told (map n (up_to r.count)) h i j a (omega (arith, length-up_to n r.count)) in
+    absurd (omega (arith, p.0, p.1, o, up_to-at n r.count i 0 (omega arith), up_to-at n r.count j 0 k))))

@@ -1,7 +1,7 @@
 -- The list rules as facts on every index, both ways. `-at` takes a list apart by its indices, `at-` puts it together;
 -- `-up_to` and `up_to-` the same for `map f (up_to n)`. Assumes nothing.
 use mathlib.Core.Path.{◌≡◌, refl, sym, ◌∙◌, ap}
-use mathlib.Core.Bool.{Bool, true, false, ◌&&◌, ◌||◌, not, and-false}
+use mathlib.Core.Bool.{Bool, true, false, ◌&&◌, ◌||◌, not, and-true, and-false, or-false, and_assoc, or_assoc}
 use mathlib.Core.Logic.{⊎_elim}
 use mathlib.Core.List.{List, [], ◌∷◌, ◌++◌, map}
 use Prim.Native.Nat.{ℕ, zero, suc, ◌+◌, ◌≤◌, ◌<◌}
@@ -10,7 +10,10 @@ use lib.Dec.{eqb, ltb}
 use lib.ListN.{length, get_or, replicate, length-map}
 use borrow.Author.Tests.{eqb-true, ltb-true, lt-ltb}
 use Rattle.file.specs.Lists.{any_of, all_of, keep, distinct, count_from, up_to, marked_from, member, members}
-use Rattle.std.specs.List.{list_any, list_all, range_with_len}
+use Rattle.std.specs.Iterator.Runs.{Run, YieldsRun}
+use Rattle.std.proofs.Common.{Option, subst}
+use Rattle.std.proofs.lemmas.Iterator.{YieldsList, items_from_drains}
+use Rattle.std.specs.List.{list_any, list_all, fold, range_with_len}
 use Rattle.std.proofs.lemmas.List.Recursion.{same_from_clauses}
 use Rattle.file.proofs.PutLaws.{length-count_from}
 use Rattle.file.proofs.BoolLaws.{bool_cases, clash_bool, not-true, not-false, bool_ext, eqb_same, and_l, and_r, and_intro, or_inl, or_inr}
@@ -78,6 +81,18 @@ module _ {A : Type 0} where
   pub all_listed : (p : A → Bool) (l : List A) → all_of p l ≡ list_all p l
   unfolding all_of
   all_listed p l = same_from_clauses (all_of p) (list_all p) (λ x b. p x && b) refl (all_first p) (λ x xs. refl) l
+
+  -- ---- a fold that asks each entry
+
+  pub fold_any : (p : A → Bool) (a : Bool) (l : List A) → fold (λ b x. b || p x) a l ≡ (a || any_of p l)
+  unfolding any_of
+  fold_any p a [] = sym (or-false a)
+  fold_any p a (x ∷ l) = fold_any p (a || p x) l ∙ or_assoc a (p x) (any_of p l) ∙ ap (λ b. a || b) (sym (or_step (p x) (any_of p l)))
+
+  pub fold_all : (p : A → Bool) (a : Bool) (l : List A) → fold (λ b x. b && p x) a l ≡ (a && all_of p l)
+  unfolding all_of
+  fold_all p a [] = sym (and-true a)
+  fold_all p a (x ∷ l) = fold_all p (a && p x) l ∙ and_assoc a (p x) (all_of p l) ∙ ap (λ b. a && b) (sym (all_first p x l))
 
   -- ---- some entry passes
 
@@ -393,7 +408,7 @@ module _ {A : Type 0} where
       clash_bool r.2 (distinct-up_to s f n h r.0 i r.1 k))
 
 -- a range of numbers, in std's words
-ranged : (n k : ℕ) → count_from n k ≡ range_with_len k n
+pub ranged : (n k : ℕ) → count_from n k ≡ range_with_len k n
 unfolding count_from
 ranged zero k = refl
 ranged (suc n) k = ap (λ (l : List ℕ). k ∷ l) (ranged n (k + 1))
@@ -451,3 +466,10 @@ pub any_default : (l : List ℕ) (i a b : ℕ) → i < length l → get_or l i a
 any_default [] i a b h = absurd (omega arith)
 any_default (x ∷ l) zero a b h = refl
 any_default (x ∷ l) (suc i) a b h = any_default l i a b (omega arith)
+
+-- what a run of `next` that ended gave, of an iterator that yields a list
+pub run_gave : {S A B : Type 0} {steps : S → Option A → S → Type 0} {v : A → B} {s : S} {all : List B} (p : Run steps) → p.from ≡ s → p.whole ≡ true → YieldsList steps v s all → map v p.items ≡ all
+unfolding YieldsRun
+run_gave {steps = steps} {v} {s} {all} p from whole e =
+    let d = p.gave.0 in
+    items_from_drains p.items (d.0, d.1, λ _. d.2 whole) (subst (λ t. YieldsList steps v t all) (sym from) e)

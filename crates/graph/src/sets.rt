@@ -17,13 +17,11 @@ pub fn has_member(marks: [bool; 512]) -> bool
     marks.iter().any(|mark| *mark)
 }
 
-// Whether its nodes are all below n. No branch on a mark, so that the compiler takes many at a time.
+// Whether its nodes are all below n. A fold, which unlike any has no branch on a mark: the compiler takes many at a time.
 pub fn members_below(marks: [bool; 512], n: usize) -> bool
     ensures { result ≡ all_of (λ (v : ℕ). ltb v n) (members marks) }
 {
-    let mut above = false;
-    for mark in &marks[n.min(512)..] {
-        above |= *mark;
-    }
-    !above
+    !marks[n.min(512)..]
+        .iter()
+        .fold(false, |above, mark| above | *mark)
 }

@@ -98,11 +98,10 @@ impl<'a> Operations<'a> {
     fn has_all(&self, block: &[bool; 512]) -> bool
         ensures { result ≡ all_of (operation_in self.now.g.now.nodes) (members block.now) }
     {
-        let mut fit = true;
-        for (v, member) in block.iter().enumerate() {
-            fit &= !*member | self.marks[v];
-        }
-        fit
+        block
+            .iter()
+            .zip(&self.marks)
+            .fold(true, |fit, (member, mark)| fit & (!*member | *mark))
     }
 
     // So is an entry that may be absent.
@@ -241,11 +240,7 @@ fn ascends(list: &[u16]) -> bool
 fn all_below(list: &[u16], n: usize) -> bool
     ensures { result ≡ all_of (λ (v : ℕ). ltb v n) list.now }
 {
-    let mut fit = true;
-    for v in list {
-        fit &= usize::from(*v) < n;
-    }
-    fit
+    list.iter().fold(true, |fit, v| fit & (usize::from(*v) < n))
 }
 
 // The entries of a register map within the limit.
@@ -271,20 +266,14 @@ impl<'a> Entries<'a> {
         u32::from(self.map.name[i]) * 65536 + u32::from(self.map.index[i])
     }
 
-    // The keys ascend, as definitions in the order of their names leave them, and so are distinct: no table is needed,
-    // and no branch on an entry. Where this says no, keys_differ decides. Field by field and by position, here and
-    // below: an entry stands in columns.
+    // The keys ascend, as definitions in the order of their names leave them, and so are distinct: no table is needed.
+    // Where this says no, keys_differ decides. By position, here and below: an entry stands in columns.
     fn keys_ascend(&self) -> bool
         ensures { result ≡ true → keys_distinct self.now.map.now ≡ true }
     {
-        let mut ascend = true;
-        let mut next = 0;
-        for i in 0..self.map.count {
-            let key = self.key(i);
-            ascend &= next <= key;
-            next = key + 1;
-        }
-        ascend
+        (0..self.map.count)
+            .map(|i| self.key(i))
+            .is_sorted_by(|a, b| *a < *b)
     }
 
     // The key of entry i stands before it.

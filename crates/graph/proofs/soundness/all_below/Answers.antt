@@ -1,7 +1,10 @@
-use Rattle.std.proofs.Common.{refl}
-use Rattle.graph.proofs.ListLaws.{all_listed}
-use Rattle.std.proofs.lemmas.List.{take_all}
+use Rattle.std.proofs.Common.{true, ◌&&◌, ◌∙◌, ℕ, rules, tests, ltb}
+use Rattle.std.proofs.lemmas.Iterator.{YieldsList-from_slice}
+use Rattle.std.proofs.lemmas.Iterator.Consumers.{fold_from_yields_List}
+use Rattle.graph.proofs.ListLaws.{fold_all}
 use Rattle.graph.proofs.soundness.all_below.Goals as goal
 
 pub returns : goal.returns
-returns c = rw (c.loop-v.invariant, take_all c.loop-v.v-index c.args.list.now c.loop-v-test.false, all_listed) refl
+returns c =
+    fold_from_yields_List _ (λ a (v : ℕ). a && ltb v c.args.n) true _ c.fold.ensures.ran (YieldsList-from_slice c.args.list.now (search rules)) (λ a x b q k. search (rules, tests))
+    ∙ fold_all (λ (v : ℕ). ltb v c.args.n) true c.args.list.now
