@@ -142,7 +142,7 @@ impl WorkingEnd {
           block = cond (any_of (λ b. b) self.old.block) self.old.block (set self.old.block v.number.0 true);
         } }
     {
-        if self.end.all.0 == 65535 {
+        if self.all().is_none() {
             self.end.all = v.number;
         }
         if let Members::Empty = self.members {
