@@ -13,7 +13,8 @@ use Rattle.file.specs.declared.RegisterKey.{RegisterKey}
 use Rattle.file.proofs.BoolLaws.{not-true, and_l, and_r}
 use Rattle.graph.specs.declared.Registers.{Registers}
 use Rattle.graph.specs.Dag.{Entry, node, entry_at, entries_of}
-use Rattle.accessors.specs.Accessors.{HasKey, node_of_key}
+use Rattle.accessors.specs.Keys.{HasKey}
+use Rattle.accessors.specs.Accessors.{node_of_key}
 use Rattle.std.specs.Prelude.{Some, None}
 
 module _ (r : Registers) (k : RegisterKey) where

@@ -1,5 +1,5 @@
 -- The source's remaining accessors as queries: "queries 11, 8, .. 10". Assumes nothing.
-use Rattle.std.specs.Prelude.{◌≡◌, cond, List, [], ◌∷◌, ℕ, ◌<◌, ltb, get_or, MatchOption, Result, Option, Ok, Err, Some, None}
+use Rattle.std.specs.Prelude.{cond, List, [], ◌∷◌, ℕ, ltb, Result, Option, Ok, Err, Some, None}
 use Rattle.file.specs.Lists.{members}
 use Rattle.file.specs.declared.Refusal.TheVariants.{Absent, Unsound}
 use Rattle.file.specs.declared.RegisterKey.{RegisterKey}
@@ -56,15 +56,6 @@ last_involving_qubit g q = names g (operation_of (at_qubit g.last q))
 unfoldable pub node_of_key : RegisterKey → List Entry → Option NodeIndex
 node_of_key k [] = None
 node_of_key k (x ∷ l) = cond (same_key x (entry k.name k.index 0)) (Some (node x.node)) (node_of_key k l)
-
--- entry i has the key
-pub record HasKey (r : Registers) (k : RegisterKey) (i : ℕ) : Type 0 where
-  pub name : get_or r.name i 0 ≡ k.name
-  pub index : get_or r.index i 0 ≡ k.index
-
--- the first position that has the key, if there is one
-abbrev pub FirstWith : Registers → RegisterKey → Option ℕ → Type 0
-FirstWith r k p = MatchOption p ((i : ℕ) → i < r.count → HasKey r k i → ⊥) (λ i. (i < r.count) × HasKey r k i × ((j : ℕ) → j < i → HasKey r k j → ⊥))
 
 -- first(name, index)
 unfoldable pub first_involving_classical : CircuitDag → RegisterKey → Result (Option NodeIndex) Refusal

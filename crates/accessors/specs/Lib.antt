@@ -1,1 +1,2 @@
 pub mod Accessors
+pub mod Keys

@@ -3,7 +3,8 @@
 
 ghost use Rattle.std.specs.Prelude.{◌≡◌, ◌≤◌};
 ghost use Rattle.graph.specs.Dag.{at_qubit, entries_of};
-ghost use Rattle.accessors.specs.Accessors.{operation_of, node_of_key, FirstWith, get as get_rule, commuting_operations};
+ghost use Rattle.accessors.specs.Keys.{FirstWith};
+ghost use Rattle.accessors.specs.Accessors.{operation_of, node_of_key, get as get_rule, commuting_operations};
 ghost use Rattle.accessors.specs.Accessors.{first_parallel_block, last_parallel_block};
 ghost use Rattle.accessors.specs.Accessors.{first_involving_qubit, last_involving_qubit, first_involving_classical, last_involving_classical};
 
