@@ -1,6 +1,8 @@
 -- How a graph and a walk cross to C: a set's marks as bytes. Assumes nothing.
-use Rattle.std.specs.Prelude.{Bool, cond, ◌&&◌, List, map, ℕ, eqb, leb}
+use Rattle.std.specs.Prelude.{Bool, cond, ◌&&◌, List, map, ℕ, eqb, leb, Result, Ok, Err}
 use Rattle.file.specs.Lists.{all_of}
+use Rattle.file.specs.declared.Refusal.{Refusal}
+use Rattle.file.specs.declared.Refusal.TheVariants.{Absent}
 use Rattle.graph.specs.declared.End.{End}
 use Rattle.graph.specs.declared.CircuitDag.{CircuitDag}
 use Rattle.graph.specs.Soundness.{sound}
@@ -76,3 +78,7 @@ host_walk w = record { current = bytes_of w.current; executed = bytes_of w.execu
 -- the bytes of both sets are marks
 unfoldable pub is_walk : HostWalk → Bool
 is_walk w = are_marks w.current && are_marks w.executed
+
+-- the walk of what came, if its bytes are marks: a byte that is no mark names no node, 8
+abbrev pub walk_from : HostWalk → Result ParallelBlocks Refusal
+walk_from w = cond (is_walk w) (Ok (walk_of w)) (Err Absent)

@@ -5,9 +5,10 @@ ghost use Rattle.walk.specs.Blocks.{whole_walk};
 ghost use Rattle.host.specs.Answers.{on_dag, stepped_from, walked};
 
 use crate::answers::no_node;
-use crate::crossing::{dag_of, is_dag, is_walk, walk_of};
+use crate::crossing::{dag_of, is_dag};
 use crate::{HostAnswer, HostDag, HostStep, HostWalk};
 use file::Refusal;
+use walk::ParallelBlocks;
 
 #[unsafe(no_mangle)]
 pub extern "C" fn sawhekonu_next(dag: HostDag, state: HostWalk, buffer: &mut [u16]) -> HostStep
@@ -20,13 +21,12 @@ pub extern "C" fn sawhekonu_next(dag: HostDag, state: HostWalk, buffer: &mut [u1
             walk: state,
         };
     }
-    if !is_walk(&state) {
+    let Ok(mut walk) = ParallelBlocks::try_from(state) else {
         return HostStep {
             answer: no_node(dag_of(dag)),
             walk: state,
         };
-    }
-    let mut walk = walk_of(state);
+    };
     let answer = HostAnswer::from(walk.next(dag_of(dag), buffer));
     HostStep {
         answer,
