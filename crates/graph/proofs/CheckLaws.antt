@@ -65,11 +65,12 @@ mark_more f i marks s m = record {
 
 -- ---- operations
 
-pub record Marking (x : Nodes) (marks : List Bool) (v : ℕ) : Type 0 where
-  pub low : v ≤ 512
-  pub long : length marks ≡ 512
-  pub forms : length x.form ≡ 512
-  pub each : (u : ℕ) → u < v → get_or marks u false ≡ operation_in x u
+pub operations_marked : (x : Nodes) (marks : List Bool) → length marks ≡ 512 → length x.form ≡ 512 → ((v : ℕ) → v < 512 → get_or marks v false ≡ operation_in x v)
+    → (v : ℕ) → get_or marks v false ≡ operation_in x v
+operations_marked x marks long forms each v = elim (dec_lt v 512) [
+  | yes l ↦ each v l
+  | no m ↦ rw (get_or-eq_default marks false {n = v} (omega arith), get_or-eq_default x.form 0 {n = v} (omega arith)) refl
+]
 
 -- ---- places
 

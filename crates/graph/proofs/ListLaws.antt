@@ -6,10 +6,13 @@ use mathlib.Core.Logic.{⊎_elim}
 use mathlib.Core.List.{List, [], ◌∷◌, ◌++◌, map}
 use Prim.Native.Nat.{ℕ, zero, suc, ◌+◌, ◌≤◌, ◌<◌}
 use native.Mathlib.Omega.{arith}
+use native.Mathlib.Decide.{ℕ_discrete}
 use lib.Dec.{eqb, ltb}
 use lib.ListN.{length, get_or, replicate, length-map}
 use borrow.Author.Tests.{eqb-true, ltb-true, lt-ltb}
 use Rattle.file.specs.Lists.{any_of, all_of, keep, distinct, count_from, up_to, marked_from, member, members}
+use Rattle.std.specs.Array.{IsFromFnResult, IsFromFnResultFrom}
+use Rattle.std.specs.Fn.{Called, Mut}
 use Rattle.std.specs.Iterator.Runs.{Run, YieldsRun}
 use Rattle.std.proofs.Common.{Option, subst}
 use Rattle.std.proofs.lemmas.Iterator.{YieldsList, items_from_drains}
@@ -473,3 +476,18 @@ unfolding YieldsRun
 run_gave {steps = steps} {v} {s} {all} p from whole e =
     let d = p.gave.0 in
     items_from_drains p.items (d.0, d.1, λ _. d.2 whole) (subst (λ t. YieldsList steps v t all) (sym from) e)
+
+-- what `array::from_fn` made by calls of a closure that changes nothing
+module _ {F B : Type 0} (g : Mut F (ℕ × Unit {0}) B) (f : F) (h : ℕ → B) (k : (i : ℕ) (r : B) (q : F) → Called g f (i, tt) r q → (q ≡ f) × (r ≡ h i)) where
+  calls_from : (n i : ℕ) (p : F) (l : List B) → p ≡ f → IsFromFnResultFrom g p l i n → (j : ℕ) (d : B) → i ≤ j → j < i + n → get_or l j d ≡ h j
+  calls_from zero i p l e m j d a b = absurd (omega arith)
+  calls_from (suc n) i p l e m j d a b =
+      let one = k i m.1 m.0 (subst (λ (p : F). Called g p (i, tt) m.1 m.0) e m.3) in
+      elim (ℕ_discrete j i) [
+        | yes z ↦ rw z (m.2.1 d ∙ one.1)
+        | no z ↦ calls_from n (i + 1) m.0 l one.0 m.4 j d (omega arith) (omega arith)
+      ]
+
+pub from_calls : {F B : Type 0} (g : Mut F (ℕ × Unit {0}) B) (f : F) (l : List B) (n : ℕ) (h : ℕ → B) → IsFromFnResult g f l n
+    → ((i : ℕ) (r : B) (q : F) → Called g f (i, tt) r q → (q ≡ f) × (r ≡ h i)) → (j : ℕ) (d : B) → j < n → get_or l j d ≡ h j
+from_calls g f l n h m k j d a = calls_from g f h k n 0 f l refl m.each j d (omega arith) (omega arith)

@@ -8,6 +8,7 @@ ghost use Rattle.graph.specs.Checks.{operation_in, operates, slot_answer, places
 
 use crate::sets::members_below;
 use crate::{CircuitDag, Commuting, Edges, End, Registers};
+use std::array;
 
 // The counts are within the limits, and the ends add up to the nodes.
 fn counts_fit(g: &CircuitDag) -> bool
@@ -73,16 +74,11 @@ struct Operations<'a> {
 }
 
 impl<'a> Operations<'a> {
-    // A loop over the marks and no array::from_fn: tried, but `search` stops at its limit on what 512 calls of the
-    // closure gave.
     fn of(g: &'a CircuitDag) -> Operations<'a>
         requires { (size g.now ≤ 512) × (g.now.edges.count ≤ 2048) }
         ensures { result.g.now ≡ g.now }
     {
-        let mut marks = [false; 512];
-        for (v, mark) in marks.iter_mut().enumerate() {
-            *mark = is_operation(g.nodes.kind[v], g.nodes.form[v]);
-        }
+        let marks = array::from_fn(|v| is_operation(g.nodes.kind[v], g.nodes.form[v]));
         Operations { g, marks }
     }
 
