@@ -1,11 +1,11 @@
-// The limits: 512 nodes at either end and the 513th refused, 2,048 edges and one more refused, 256 register entries and one more refused, by one key
-// and by a list of 24; and, on a graph of 512 nodes, an empty set, refused 12 and not 5.
+// The limits: 512 nodes at either end and the 513th refused, 2,048 edges and one more refused, 256 register entries and
+// one more refused, by one key and by a list of 24; and, on a graph of 512 nodes, an empty set, refused 12 and not 5.
 #![tactic(auto)]
 
 ghost use Rattle.std.specs.Prelude.{◌≤◌, ◌<◌};
 
 use graph::CircuitDag;
-use std::io;
+use std::{array, io};
 use writing::Gate;
 
 // Gate k's mask. Plain: qubit 0. In layers of 8: row k of an 8 x 8 grid of qubits in one layer, column k in the next, so
@@ -24,10 +24,10 @@ fn mask_of(layers: bool, k: usize) -> u64 {
 // A file of n gates, of at most 512, at the start of the array. front is the record's own bool; layers stays one, since a
 // closure that gives the mask would have to say that it takes every k.
 fn gates(n: usize, front: bool, layers: bool) -> [u8; 9218] {
-    let mut gates = [Gate { front, mask: 0 }; 512];
-    for (k, gate) in gates.iter_mut().enumerate() {
-        gate.mask = mask_of(layers, k);
-    }
+    let gates: [Gate; 512] = array::from_fn(|k| Gate {
+        front,
+        mask: mask_of(layers, k),
+    });
     let mut file = [0; 9218];
     let _ = writing::write_gates(&gates[..n.min(512)], &mut file);
     file
