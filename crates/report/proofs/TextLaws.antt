@@ -4,9 +4,13 @@ use mathlib.Core.List.{List, [], ◌∷◌, ◌++◌, append_assoc}
 use Prim.Native.Nat.{ℕ, zero, suc, ◌+◌, ◌*◌, ◌-◌, ◌/◌, ◌%◌, ◌≤◌, ◌<◌}
 use native.Mathlib.Omega.{arith}
 use native.Mathlib.Decide.{dec_lt}
-use lib.ListN.{length, length-append}
-use Rattle.std.proofs.lemmas.List.{append-nil}
+use lib.ListN.{length, length-append, take, drop}
+use lib.Seq.{length-take-le}
 use borrow.Author.Tests.{lt-ltb, le-ltb}
+use borrow.Rule.Slice.PartMut.{put_mid}
+use Rattle.std.proofs.lemmas.List.{append-nil, take-append-drop}
+use Rattle.std.proofs.lemmas.Slice.{take-put_mid, drop-put_mid, drop-append-drop}
+use Rattle.file.specs.Lists.{onto}
 use Rattle.report.specs.Text.{digits}
 
 pub digits-none : (k x : ℕ) → k ≡ 0 → digits k x ≡ []
@@ -80,3 +84,26 @@ fits_front s a b m h = omega (arith, length-append a b)
 -- .. and behind it the rest has
 pub fits_rest : (s a b next : List ℕ) (m : ℕ) → next ≡ s ++ a → length s + length (a ++ b) ≤ m → length next + length b ≤ m
 fits_rest s a b next m e h = omega (arith, ap length e, length-append s a, length-append a b)
+
+-- ---- a text s written behind the first k bytes of b
+
+module _ (k : ℕ) (b s x : List ℕ) (room : k + length s ≤ length b) (e : x ≡ s) where
+  abbrev after : List ℕ
+  after = put_mid k (k + length s - k) b x
+
+  pub text_behind : take (k + length s) after ≡ take k b ++ s
+  text_behind =
+      take-put_mid k (k + length s - k) b x (k + length s) (ap (λ (l : List ℕ). k + length l) (sym e)) (omega arith)
+      ∙ ap (λ (l : List ℕ). take k b ++ l) e
+
+  -- what z holds behind the text is still there
+  pub rest_behind : (z : List ℕ) → b ≡ onto (take k b) z → after ≡ onto (take (k + length s) after) z
+  rest_behind z h =
+      let t : length (take k b) ≡ k = length-take-le k b (omega arith) in
+      let m : length (take (k + length s) after) ≡ k + length s = omega (arith, ap length text_behind, length-append (take k b) s, t) in
+      sym (take-append-drop (k + length s) after)
+      ∙ ap (λ (l : List ℕ). take (k + length s) after ++ l)
+      (drop-put_mid k (k + length s - k) b x (k + length s) (omega arith) (omega arith) (omega (arith, ap length e))
+      ∙ ap (drop (k + length s)) (h ∙ ap (λ (n : ℕ). take k b ++ drop n z) t)
+      ∙ drop-append-drop k z (take k b) (k + length s) (omega arith) t
+      ∙ ap (λ (n : ℕ). drop n z) (sym m))

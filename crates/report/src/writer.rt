@@ -1,4 +1,4 @@
-// A text that is written byte by byte. The buffer is fixed, since the libraries have no heap.
+// A text as it is written. The buffer is fixed, since the libraries have no heap.
 ghost use Rattle.std.specs.Prelude.{◌≡◌, [], ◌∷◌, ◌++◌, ◌+◌, ◌<◌, ◌≤◌, length};
 ghost use Rattle.report.specs.Text.{digits, decimal, text_of};
 
@@ -45,9 +45,8 @@ impl Writer {
         requires { length self.old + length s.now ≤ 5120 }
         ensures { self.new ≡ self.old ++ s.now }
     {
-        for byte in s {
-            self.push(*byte);
-        }
+        self.bytes[self.length..self.length + s.len()].copy_from_slice(s);
+        self.length += s.len();
     }
 
     // The last k decimal digits of x, without zeros in front: by recursion, since the last digit comes last. By hand:
