@@ -14,7 +14,7 @@ use Rattle.file.specs.Lists.{onto, up_to}
 use Rattle.file.proofs.BoolLaws.{clash_bool, split_lt}
 use Rattle.graph.proofs.ListLaws.{length-up_to, up_to-suc}
 use Rattle.queries.specs.Marks.{EndsBelow, in_turn}
-use Rattle.walk.specs.Numbering.{at, following, Joined, Above, Swept, Rises, Settled, Begun, Zeroed, Counted}
+use Rattle.walk.specs.Numbering.{at, following, Joined, Above, Swept, Rises, Settled, Zeroed, Counted}
 
 -- the arcs along the edges
 pub joined_of : {from to : List ℕ} {m : ℕ} → EndsBelow to from m → Joined from to m
@@ -167,25 +167,6 @@ module _ (from to : List ℕ) (m n : ℕ) (begun : List ℕ) where
   rounds_done {k = k} I le = record { long = I.long; within = I.within; reaches = λ N rank R v l. I.found N rank R v l (omega (arith, R.top v l)) }
 
 -- ---- the numbers before the passes
-
-module _ (block : List Bool) where
-  pub record Firsts (num : List ℕ) (v : ℕ) : Type 0 where
-    pub low : v ≤ 512
-    pub long : length num ≡ 512
-    pub each : (u : ℕ) → u < v → at num u ≡ cond (get_or block u false) 0 65535
-
-  pub firsts_more : {num : List ℕ} {v : ℕ} → Firsts num v → (x : ℕ) → v < 512 → x ≡ cond (get_or block v false) 0 65535 → Firsts (set num v x) (v + 1)
-  firsts_more {num} {v} I x h e = record {
-    low = omega arith;
-    long = length-set num v x ∙ I.long;
-    each = λ u l. ⊎_elim
-        (λ (q : u ≡ v). ap (at (set num v x)) q ∙ get_or-set_same num v x 0 (omega (arith, I.long)) ∙ e ∙ ap (λ (w : ℕ). cond (get_or block w false) 0 65535) (sym q))
-        (λ (q : u < v). get_or-set_other num v u x 0 (omega arith) ∙ I.each u q)
-        (split_lt u v l);
-  }
-
-  pub firsts-done : {num : List ℕ} {v : ℕ} → Firsts num v → 512 ≤ v → Begun block num
-  firsts-done {v = v} I le = record { long = I.long; each = λ u l. I.each u (omega arith) }
 
 module _ (to begun : List ℕ) where
   pub record Zeroing (num : List ℕ) (i : ℕ) : Type 0 where

