@@ -1,15 +1,16 @@
 -- The passes over the edge list: each loop's invariant, and what keeps it. Assumes nothing.
 use mathlib.Core.Path.{◌≡◌, refl, sym, ◌∙◌, ap}
-use mathlib.Core.Bool.{Bool, true, false, cond, ◌||◌}
+use mathlib.Core.Bool.{Bool, true, false, cond, not, ◌||◌}
 use mathlib.Core.Logic.{◌⊎◌, inl, inr, ⊎_elim, ◌≢◌}
 use mathlib.Core.List.{List, [], ◌∷◌, ◌++◌, map}
 use Prim.Native.Nat.{ℕ, zero, suc, ◌+◌, ◌≤◌, ◌<◌, max}
 use native.Mathlib.Omega.{arith}
 use native.Mathlib.Decide.{dec_lt, ℕ_discrete}
-use lib.Dec.{ltb}
+use lib.Dec.{ltb, eqb}
 use lib.ListN.{length, get_or, set, take, drop, length-set}
 use lib.Seq.{length-take-le, get_or-take, get_or-set_same, get_or-set_other, set-get_or, take-suc}
-use borrow.Author.Tests.{ltb-true, lt-ltb}
+use borrow.Author.Tests.{eqb-true, eq-eqb, lt-ltb}
+use Rattle.std.specs.List.{fold, filter}
 use Rattle.file.specs.Lists.{onto, up_to}
 use Rattle.file.proofs.BoolLaws.{clash_bool, split_lt}
 use Rattle.graph.proofs.ListLaws.{length-up_to, up_to-suc}
@@ -219,36 +220,56 @@ zeroed_first to m {old} {new} h Z =
 
 -- ---- the count
 
-pub count_begin : (num : List ℕ) → Counted num 0 0
-count_begin num = record { above = λ v l. absurd (omega arith); reached = λ k e. absurd (omega arith) }
+-- the numbers that name a block
+abbrev pub named : List ℕ → List ℕ
+named l = filter (λ x. not (eqb x 65535)) l
 
-pub count_more : {num : List ℕ} {v r : ℕ} → Counted num v r → (r' : ℕ) → r' ≡ cond (ltb (at num v) 65535) (max r (at num v + 1)) r → Counted num (v + 1) r'
-count_more {num} {v} {r} I r' e = go (ltb (at num v) 65535) refl e
+-- one more than the greatest, from a on
+abbrev counted : ℕ → List ℕ → ℕ
+counted a l = fold (λ b x. max b (x + 1)) a l
+
+record Counting (num : List ℕ) (a r : ℕ) : Type 0 where
+  least : a ≤ r
+  above : (v : ℕ) → v < length num → at num v < 65535 → at num v < r
+  reached : (k : ℕ) → r ≡ suc k → (a ≡ suc k) ⊎ ((v : ℕ) × (v < length num) × (at num v ≡ k) × (k < 65535))
+
+count_on : (l : List ℕ) (a : ℕ) → ((v : ℕ) → at l v < 65536) → Counting l a (counted a (named l))
+count_on [] a h = record { least = omega arith; above = λ v l. absurd (omega arith); reached = λ k e. inl e }
+count_on (x ∷ l) a h = go (λ b. count_on l b (λ v. h (suc v))) (eqb x 65535) refl
   where
-    go : (b : Bool) → ltb (at num v) 65535 ≡ b → r' ≡ cond b (max r (at num v + 1)) r → Counted num (v + 1) r'
-    go true q e = let low : at num v < 65535 = ltb-true _ _ q in record {
-      above = λ u l h. ⊎_elim
-          (λ (p : u ≡ v). omega (arith, ap (at num) p))
-          (λ (p : u < v). omega (arith, I.above u p h))
-          (split_lt u v l);
-      reached = λ k p. elim (dec_lt r (at num v + 1)) [
-        | yes l ↦ (v, omega arith, omega arith, omega arith)
-        | no l ↦ let x = I.reached k (omega arith) in (x.0, omega (arith, x.1), x.2, x.3)
-      ];
-    }
-    go false q e = record {
-      above = λ u l h. ⊎_elim
-          (λ (p : u ≡ v). absurd (clash_bool (lt-ltb _ _ (subst_low p h)) q))
-          (λ (p : u < v). omega (arith, I.above u p h))
-          (split_lt u v l);
-      reached = λ k p. let x = I.reached k (omega arith) in (x.0, omega (arith, x.1), x.2, x.3);
-    }
-      where
-        subst_low : {u : ℕ} → u ≡ v → at num u < 65535 → at num v < 65535
-        subst_low p h = omega (arith, ap (at num) p)
+    later : (k : ℕ) → (v : ℕ) × (v < length l) × (at l v ≡ k) × (k < 65535)
+        → (v : ℕ) × (v < length (x ∷ l)) × (at (x ∷ l) v ≡ k) × (k < 65535)
+    later k p = (suc p.0, omega (arith, p.1), p.2, p.3)
 
-pub count-done : {num : List ℕ} {n v r : ℕ} → Counted num v r → v ≤ n → n ≤ v → Counted num n r
-count-done {n = n} {v = v} I h le = let z : v ≡ n = omega arith in rw z at I
+    all : {r : ℕ} → ((v : ℕ) → v < length l → at l v < 65535 → at l v < r) → (x < 65535 → x < r)
+        → (v : ℕ) → v < length (x ∷ l) → at (x ∷ l) v < 65535 → at (x ∷ l) v < r
+    all f g zero k b = g b
+    all f g (suc v) k b = f v (omega arith) b
+
+    go : ((b : ℕ) → Counting l b (counted b (named l))) → (b : Bool) → eqb x 65535 ≡ b
+        → Counting (x ∷ l) a (counted a (cond (not b) (x ∷ named l) (named l)))
+    go more true q = let C = more a in let e = eqb-true x 65535 q in record {
+      least = C.least;
+      above = all C.above (λ b. absurd (omega arith));
+      reached = λ k p. ⊎_elim (λ (z : a ≡ suc k). inl z) (λ z. inr (later k z)) (C.reached k p);
+    }
+    go more false q = let C = more (max a (x + 1)) in let m = C.least in record {
+      least = omega (arith, m);
+      above = all C.above (λ b. omega (arith, m));
+      reached = λ k p. ⊎_elim
+          (λ (z : max a (x + 1) ≡ suc k). elim (dec_lt a (x + 1)) [
+            | yes l ↦ inr (0, omega arith, omega (arith, z), omega (arith, z, h 0, λ (e : x ≡ 65535). clash_bool (eq-eqb x 65535 e) q))
+            | no l ↦ inl (omega (arith, z))
+          ])
+          (λ z. inr (later k z))
+          (C.reached k p);
+    }
+
+pub count-is : (num : List ℕ) → ((v : ℕ) → at num v < 65536) → Counted num (length num) (counted 0 (named num))
+count-is num h = let C = count_on num 0 h in record {
+  above = C.above;
+  reached = λ k e. ⊎_elim (λ (z : 0 ≡ suc k). absurd (omega arith)) (λ z. z) (C.reached k e);
+}
 
 -- the first n numbers, as a list
 pub counted_first : {num : List ℕ} {n r : ℕ} → n ≤ length num → Counted (take n num) (length (take n num)) r → Counted num n r

@@ -1,5 +1,5 @@
 // The whole walk and its single step, both found by passes over the edge list.
-ghost use Rattle.std.specs.Prelude.{◌≡◌, true, false, cond, not, ◌&&◌, ◌||◌, map, ℕ, ◌+◌, ◌-◌, ◌≤◌, ◌<◌, max, ltb, eqb, length};
+ghost use Rattle.std.specs.Prelude.{◌≡◌, true, false, cond, not, ◌&&◌, ◌||◌, map, ℕ, ◌+◌, ◌-◌, ◌≤◌, ◌<◌, max, eqb, length};
 ghost use Rattle.file.specs.Lists.{members, onto, up_to};
 ghost use Rattle.graph.specs.Dag.{size};
 ghost use Rattle.graph.specs.Soundness.{sound};
@@ -84,25 +84,15 @@ fn number_targets(targets: &[u16], num: &mut [u16; 512])
     }
 }
 
-// One more than the greater of two numbers, 65535 left out, as in the lent buffer, which C reads.
-fn count_with(count: usize, x: u16) -> usize
-    ensures { result ≡ cond (ltb x 65535) (max count (x + 1)) count }
-{
-    if x == 65535 {
-        return count;
-    }
-    count.max(usize::from(x) + 1)
-}
-
-// How many blocks the numbers name.
+// How many blocks the numbers name: one more than the greatest, 65535 left out, as in the lent buffer, which C reads.
 fn count_blocks(num: &[u16]) -> usize
     ensures { Counted num.now (length num.now) result }
 {
-    let mut count: usize = 0;
-    for x in num {
-        count = count_with(count, *x);
-    }
-    count
+    num.iter()
+        .filter(|x| **x != 65535)
+        .map(|x| usize::from(*x) + 1)
+        .max()
+        .unwrap_or(0)
 }
 
 // The arcs that lead as a graph's edges do. The queries have the same function for themselves: it asks for ends that
