@@ -1,5 +1,5 @@
 -- A step of the walk by passes over the edges: each loop's invariant, and what the passes find. Assumes nothing.
-use mathlib.Core.Path.{◌≡◌, refl, sym, ◌∙◌, ap, subst}
+use mathlib.Core.Path.{◌≡◌, refl, sym, ◌∙◌, ap}
 use mathlib.Core.Bool.{Bool, true, false, cond, not, ◌&&◌, ◌||◌}
 use mathlib.Core.Logic.{◌⊎◌, inl, inr, ⊎_elim}
 use mathlib.Core.List.{List, [], ◌∷◌}
@@ -11,8 +11,6 @@ use lib.Dec.{eqb}
 use lib.ListN.{length, get_or, set, replicate, length-set, length-replicate, get_or-eq_default}
 use lib.Seq.{get_or-set_same, get_or-set_other, ext_get_or}
 use borrow.Author.Tests.{eq-eqb, ne_eqb}
-use Rattle.std.specs.Array.{IsFromFnResult, IsFromFnResultFrom}
-use Rattle.std.specs.Fn.{Called, Mut}
 use Rattle.file.specs.Lists.{any_of, keep, cons_if, is_empty, member, members, marked_from, count_from}
 use Rattle.graph.specs.declared.CircuitDag.{CircuitDag}
 use Rattle.graph.specs.Dag.{size, has_edge}
@@ -43,25 +41,6 @@ mark-stored l t x v h = elim (ℕ_discrete v t) [
 ]
 
 -- ---- an array made by calls
-
--- what `array::from_fn` made by calls of a closure that changes nothing
-module _ {F B : Type 0} (g : Mut F (ℕ × Unit {0}) B) (f : F) (h : ℕ → B)
-    (k : (i : ℕ) (r : B) (q : F) → Called g f (i, tt) r q → (q ≡ f) × (r ≡ h i)) where
-  calls_from : (n i : ℕ) (p : F) (l : List B) → p ≡ f → IsFromFnResultFrom g p l i n → (j : ℕ) (d : B) → i ≤ j → j < i + n → get_or l j d ≡ h j
-  calls_from zero i p l e m j d a b = absurd (omega arith)
-  calls_from (suc n) i p l e m j d a b =
-      let one = k i m.1 m.0 (subst (λ (p : F). Called g p (i, tt) m.1 m.0) e m.3) in
-      elim (ℕ_discrete j i) [
-        | yes z ↦ rw z (m.2.1 d ∙ one.1)
-        | no z ↦ calls_from n (i + 1) m.0 l one.0 m.4 j d (omega arith) (omega arith)
-      ]
-
--- The record whole, since a literal n in its field would be counted down.
-pub from_calls : {F B : Type 0} (g : Mut F (ℕ × Unit {0}) B) (f : F) (l : List B) (n : ℕ) (h : ℕ → B) → IsFromFnResult g f l n
-    → ((i : ℕ) (r : B) (q : F) → Called g f (i, tt) r q → (q ≡ f) × (r ≡ h i)) → (j : ℕ) (d : B) → j < n → get_or l j d ≡ h j
-from_calls g f l n h m k j d a = calls_from g f h k n 0 f l refl m.each j d (omega arith) (omega arith)
-
--- ---- two sets joined
 
 pub joins : (a b all : List Bool) → length a ≡ 512 → length b ≡ 512 → length all ≡ 512
     → ((v : ℕ) → v < 512 → get_or all v false ≡ (get_or a v false || get_or b v false)) → all ≡ joined a b

@@ -67,7 +67,7 @@ fn number_at_first(member: bool) -> u16
     if member { 0 } else { 65535 }
 }
 
-// So for all nodes. By index: `block.map` would move the array first, and took 25 times as long.
+// So for all nodes. By index: `block.map` would move the array into an iterator first.
 fn first_numbers(block: &[bool; 512]) -> [u16; 512]
     ensures { Begun block.now result }
 {

@@ -1,5 +1,5 @@
 use Rattle.std.proofs.Common.{rules, tests, false, cond, get_or}
-use Rattle.walk.proofs.StepLaws.{from_calls}
+use Rattle.graph.proofs.ListLaws.{from_calls}
 use Rattle.walk.proofs.whole.first_numbers.Goals as goal
 
 pub returns : goal.returns

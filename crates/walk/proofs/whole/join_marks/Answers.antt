@@ -1,5 +1,6 @@
 use Rattle.std.proofs.Common.{rules, tests, false, ◌||◌, get_or}
-use Rattle.walk.proofs.StepLaws.{from_calls, joins}
+use Rattle.graph.proofs.ListLaws.{from_calls}
+use Rattle.walk.proofs.StepLaws.{joins}
 use Rattle.walk.proofs.whole.join_marks.Goals as goal
 
 pub returns : goal.returns
