@@ -1,4 +1,5 @@
-// Queries on a handed-in graph, each answered into a lent buffer. Sets of nodes are marks; edges are read in passes.
+// Queries on a handed-in graph, each answered into a lent buffer. Sets of nodes are marks, 512 as in the graph, which an
+// arc's ends index; edges are read in passes.
 ghost use Rattle.std.specs.Prelude.{◌≡◌, true, false, not, ◌&&◌, ◌≤◌, ◌<◌, ltb, leb, length, set, IfSome, IfNone};
 ghost use Rattle.std.specs.List.Sorted.{IsNonDecreasing};
 ghost use Rattle.file.specs.Lists.{members};

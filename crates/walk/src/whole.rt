@@ -1,4 +1,5 @@
-// The whole walk and its single step, both found by passes over the edge list.
+// The whole walk and its single step, both found by passes over the edge list. Sets and numbers of nodes are arrays of
+// 512, the most nodes there are, so that an arc's ends index them: a slice's length would be one more fact to hand on.
 ghost use Rattle.std.specs.Prelude.{◌≡◌, true, false, cond, not, ◌&&◌, ◌||◌, map, ℕ, ◌+◌, ◌-◌, ◌≤◌, ◌<◌, max, eqb, length};
 ghost use Rattle.file.specs.Lists.{members, onto, up_to};
 ghost use Rattle.graph.specs.Dag.{size};
