@@ -3,21 +3,23 @@ use mathlib.Core.Path.{◌≡◌, refl, sym, ◌∙◌, ap}
 use mathlib.Core.Bool.{Bool, true, false, cond, not, ◌&&◌, ◌||◌, or-false}
 use mathlib.Core.Logic.{◌⊎◌, inl, inr, ⊎_elim}
 use mathlib.Core.List.{List, [], ◌∷◌}
-use Prim.Native.Nat.{ℕ, zero, suc, ◌+◌, ◌-◌, ◌≤◌, ◌<◌}
+use Prim.Native.Nat.{ℕ, zero, suc, ◌+◌, ◌-◌, ◌≤◌, ◌<◌, min}
 use native.Mathlib.Omega.{arith}
 use native.Mathlib.Numerals.{add-one}
 use native.Mathlib.Decide.{dec_lt, ℕ_discrete}
 use lib.Dec.{ltb, leb, eqb}
-use lib.ListN.{length, get_or, take, set, replicate, length-set}
+use lib.ListN.{length, get_or, take, drop, set, replicate, length-set, length-drop}
+use Rattle.std.specs.List.{zip}
 use Rattle.std.specs.List.Sorted.{IsNonDecreasing}
-use Rattle.std.proofs.lemmas.List.Sorted.{IsNonDecreasingBy-from_default}
-use lib.Seq.{length-take-le, get_or-take, take-suc, take-length, get_or-set_same, get_or-set_other}
+use Rattle.std.proofs.lemmas.Slice.Zip.{length-zip, get_or-zip}
+use Rattle.std.proofs.lemmas.List.Sorted.{IsNonDecreasingBy-from_default, IsNonDecreasingBy-from_all_adjacent}
+use lib.Seq.{get_or-take, get_or-drop, take-suc, take-length, get_or-set_same, get_or-set_other}
 use borrow.Author.Tests.{ltb-true, leb-true, le-leb, eqb-true, eq-eqb, ne_eqb, not-true as not-flip}
-use Rattle.file.specs.Lists.{any_of, member}
+use Rattle.file.specs.Lists.{any_of, all_of, member}
 use Rattle.graph.proofs.CheckLaws.{unmarked as replicate-false}
 use Rattle.queries.specs.Marks.{no_node, every_node, unmarked, Listed, EndsBelow, Ordered, LeadsAbove, Neighbours, Passes, Spread, Carried, in_turn, Swept, Closed}
 use Rattle.file.proofs.BoolLaws.{bool_cases, clash_bool, and_l, and_r, and_intro, or_cases, or_l, or_r, or_inl, or_inr, flip-not, eqb_same, split_lt}
-use Rattle.graph.proofs.ListLaws.{any_here, any-later, any_append}
+use Rattle.graph.proofs.ListLaws.{any_here, any-later, any_append, all_at}
 
 -- ---- one mark more
 
@@ -309,47 +311,29 @@ module _ (near far : List ℕ) (m : ℕ) where
 
 -- ---- an ordered edge list: one pass down settles the marks
 
--- the edges before i are ordered, and last is the far end of the edge before i
-pub record Ordering (near far : List ℕ) (m : ℕ) (ordered : Bool) (last i : ℕ) : Type 0 where
-  pub count : m ≤ 2048
-  pub low : i ≤ m
-  pub told : ordered ≡ true → Ordered near far i
-  pub top : ordered ≡ true → (j : ℕ) → j < i → get_or far j 0 ≤ last
+-- an entry of the first m, cut out as a list
+cut : (all l : List ℕ) (m i : ℕ) → l ≡ take m all → i < m → get_or l i 0 ≡ get_or all i 0
+cut all l m i e k = ap (λ (x : List ℕ). get_or x i 0) e ∙ get_or-take m all i 0 k
 
-pub orders_none : (near far : List ℕ) (m : ℕ) (ordered : Bool) (last : ℕ) → m ≤ 2048 → Ordering near far m ordered last 0
-orders_none near far m ordered last k = record {
-  count = k;
-  low = omega arith;
-  told = λ q. record { rises = λ i l. absurd (omega arith); ascends = λ i j a l. absurd (omega arith) };
-  top = λ q j l. absurd (omega arith);
+-- each number of a list is at most the next
+next_above : (l : List ℕ) (j : ℕ) → j ≡ min (length l) 1 → all_of (λ (p : ℕ × ℕ). leb p.0 p.1) (zip l (drop j l)) ≡ true → IsNonDecreasing l
+next_above l j is h = IsNonDecreasingBy-from_all_adjacent (λ x. x) l (λ k d b.
+    let n = length-drop j l in
+    let z = get_or-zip l (drop j l) k (d, d) (omega arith) (omega arith) in
+    let e = all_at (λ (p : ℕ × ℕ). leb p.0 p.1) (zip l (drop j l)) (d, d) h k (omega (arith, length-zip l (drop j l))) in
+    let q : j + k ≡ k + 1 = omega arith in
+    rw (get_or-drop j l k d, q) at (leb-true (get_or l k d) (get_or (drop j l) k d) (sym (ap (λ (p : ℕ × ℕ). leb p.0 p.1) z) ∙ e)))
+
+-- what the two tests of the first m arcs, cut out as lists, say of them
+pub ordered_told : (near far n f : List ℕ) (m j : ℕ) → n ≡ take m near → f ≡ take m far → length n ≡ m → length f ≡ m → j ≡ min m 1
+    → all_of (λ (p : ℕ × ℕ). ltb p.0 p.1) (zip n f) ≡ true → all_of (λ (p : ℕ × ℕ). leb p.0 p.1) (zip f (drop j f)) ≡ true → Ordered near far m
+ordered_told near far n f m j en ef ln lf is r s = record {
+  rises = λ i k.
+      let z = get_or-zip n f i (0, 0) (omega arith) (omega arith) in
+      let h = all_at (λ (p : ℕ × ℕ). ltb p.0 p.1) (zip n f) (0, 0) r i (omega (arith, length-zip n f)) in
+      rw (cut near n m i en k, cut far f m i ef k) at (ltb-true (get_or n i 0) (get_or f i 0) (sym (ap (λ (p : ℕ × ℕ). ltb p.0 p.1) z) ∙ h));
+  ascends = λ i k a b. rw (cut far f m i ef (omega arith), cut far f m k ef b) at (next_above f j (rw lf is) s i k 0 a (omega arith));
 }
-
-module _ {near far : List ℕ} {m : ℕ} {ordered : Bool} {last i : ℕ} (O : Ordering near far m ordered last i) where
-  pub orders_one : i < m → (x : Bool) → x ≡ (ltb (get_or near i 0) (get_or far i 0) && leb last (get_or far i 0)) → Ordering near far m (ordered && x) (get_or far i 0) (i + 1)
-  orders_one k x e = record {
-    count = O.count;
-    low = omega arith;
-    told = λ q. record {
-      rises = λ j l. ⊎_elim (λ (z : j ≡ i). rw z (rise q)) (λ (z : j < i). (O.told (and_l ordered x q)).rises j z) (split_lt j i l);
-      ascends = λ j n a l. ⊎_elim
-          (λ (z : n ≡ i). rw z (below q j (omega arith)))
-          (λ (z : n < i). (O.told (and_l ordered x q)).ascends j n a z)
-          (split_lt n i l);
-    };
-    top = λ q j l. below q j l;
-  }
-    where
-      rise : (ordered && x) ≡ true → get_or near i 0 < get_or far i 0
-      rise q = ltb-true _ _ (and_l (ltb (get_or near i 0) (get_or far i 0)) (leb last (get_or far i 0)) (sym e ∙ and_r ordered x q))
-
-      below : (ordered && x) ≡ true → (j : ℕ) → j < i + 1 → get_or far j 0 ≤ get_or far i 0
-      below q j l = ⊎_elim
-          (λ (z : j ≡ i). rw z (omega arith))
-          (λ (z : j < i). omega (arith, O.top (and_l ordered x q) j z, leb-true last (get_or far i 0) (and_r (ltb (get_or near i 0) (get_or far i 0)) (leb last (get_or far i 0)) (sym e ∙ and_r ordered x q))))
-          (split_lt j i l)
-
-  pub orders_all : m ≤ i → ordered ≡ true → Ordered near far m
-  orders_all k q = let z : i ≡ m = omega (arith, O.low) in rw z at (O.told q)
 
 -- the first edges of an ordered list
 pub orders_fewer : (near far : List ℕ) (m k : ℕ) → k ≤ m → Ordered near far m → Ordered near far k
@@ -414,23 +398,10 @@ settled_above near far m k v mark h O A C = record {
         (λ i l t. le-leb (get_or near i 0) v (omega (arith, O.rises i (omega (arith, A.within)), leb-true (get_or far i 0) v t)))
         (λ u t. le-leb u v (omega (arith, eqb-true u v (sym (only_marked v u h) ∙ t))))
 
--- an ordered list has its arcs: no far end is 0
-some_long : (l : List ℕ) (i : ℕ) → 0 < get_or l i 0 → i < length l
-some_long [] i h = absurd (omega arith)
-some_long (x ∷ l) zero h = omega arith
-some_long (x ∷ l) (suc i) h = omega (arith, some_long l i h)
+-- the far ends of an ordered list, cut out as a list
+pub non_decreasing : (near far f : List ℕ) (m : ℕ) → f ≡ take m far → length f ≡ m → Ordered near far m → IsNonDecreasing f
+non_decreasing near far f m e l O =
+    IsNonDecreasingBy-from_default (λ x. x) f 0 (λ i j h k. rw (cut far f m i e (omega arith), cut far f m j e (omega arith)) (O.ascends i j h (omega arith)))
 
-pub ordered_long : (near far : List ℕ) (m : ℕ) → Ordered near far m → m ≤ length far
-ordered_long near far zero O = omega arith
-ordered_long near far (suc m) O = omega (arith, some_long far m (omega (arith, O.rises m (omega arith))))
-
--- the first arcs of an ordered list, as a list
-pub non_decreasing : (far : List ℕ) (m : ℕ) → ((i j : ℕ) → i ≤ j → j < m → get_or far i 0 ≤ get_or far j 0) → m ≤ length far → IsNonDecreasing (take m far)
-non_decreasing far m ascends long =
-    let n : length (take m far) ≡ m = length-take-le m far long in
-    IsNonDecreasingBy-from_default (λ x. x) (take m far) 0 (λ i j h k. rw (get_or-take m far i 0 (omega arith), get_or-take m far j 0 (omega arith)) (ascends i j h (omega arith)))
-
-pub leads_whole : (far : List ℕ) (m v k : ℕ) → m ≤ length far → LeadsAbove (take m far) (length (take m far)) v k → LeadsAbove far m v k
-leads_whole far m v k long A =
-    let n : length (take m far) ≡ m = length-take-le m far long in
-    record { within = omega (arith, A.within); above = λ i a b. rw (get_or-take m far i 0 b) at (A.above i a (omega arith)) }
+pub leads_whole : (far f : List ℕ) (m v k : ℕ) → f ≡ take m far → length f ≡ m → LeadsAbove f (length f) v k → LeadsAbove far m v k
+leads_whole far f m v k e l A = record { within = omega (arith, A.within); above = λ i a b. rw (cut far f m i e b) at (A.above i a (omega arith)) }

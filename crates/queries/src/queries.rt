@@ -1,6 +1,6 @@
 // Queries on a handed-in graph, each answered into a lent buffer. Sets of nodes are marks, 512 as in the graph, which an
 // arc's ends index; edges are read in passes.
-ghost use Rattle.std.specs.Prelude.{◌≡◌, true, false, not, ◌&&◌, ◌≤◌, ◌<◌, ltb, leb, length, set, IfSome, IfNone};
+ghost use Rattle.std.specs.Prelude.{◌≡◌, true, false, not, ◌≤◌, ◌<◌, length, take, set, IfSome, IfNone};
 ghost use Rattle.std.specs.List.Sorted.{IsNonDecreasing};
 ghost use Rattle.file.specs.Lists.{members};
 ghost use Rattle.queries.specs.Marks.{no_node, every_node, Listed, Ordered, LeadsAbove, Neighbours};
@@ -90,25 +90,33 @@ fn spread(mark: &mut [bool; 512], arcs: &Arcs, first_up: bool)
     }
 }
 
-// An edge leads to a larger number, which is not below the last edge's.
-fn rises(from: u16, to: u16, last: u16) -> bool
-    ensures { result ≡ (ltb from to && leb last to) }
+// The ends that stand in an array. A proof has the array's length of a parameter, and not of a field that lends it.
+fn first_ends(ends: &[u16; 2048], count: usize) -> &[u16]
+    requires { count ≤ 2048 }
+    ensures ends { result.now ≡ take count ends.now }
+    ensures length { length result.now ≡ count }
 {
-    (from < to) & (last <= to)
+    &ends[..count]
 }
 
 // Does every edge lead to a larger number, and do these ascend along the list? So it is after insertions at the back
-// alone. No branch on an edge, so that the compiler takes many at a time.
+// alone. A fold has no branch on an edge, so that the compiler takes many at a time; all and is_sorted stop at an edge,
+// and over skip(1) it takes them one by one.
 fn is_ordered(arcs: &Arcs) -> bool
     ensures { result ≡ true → Ordered arcs.now.near.now arcs.now.far.now arcs.now.count }
 {
-    let mut ordered = true;
-    let mut last: u16 = 0;
-    for i in 0..arcs.count {
-        ordered &= rises(arcs.near[i], arcs.far[i], last);
-        last = arcs.far[i];
-    }
-    ordered
+    let near = first_ends(arcs.near, arcs.count);
+    let far = first_ends(arcs.far, arcs.count);
+    let next = &far[arcs.count.min(1)..];
+    let rises = near
+        .iter()
+        .zip(far)
+        .fold(true, |so_far, (u, v)| so_far & (u < v));
+    let ascends = far
+        .iter()
+        .zip(next)
+        .fold(true, |so_far, (u, v)| so_far & (u <= v));
+    rises && ascends
 }
 
 // An index from which on a list that ascends is above v: there the arcs lead above it.
@@ -157,8 +165,8 @@ fn ancestors(arcs: &Arcs, v: Node) -> [bool; 512]
 {
     let mut mark = v.marked([false; 512], true);
     if is_ordered(arcs) {
-        let far = arcs.far;
-        settle(&mut mark, arcs, leads_above(&far[..arcs.count], v.v));
+        let k = leads_above(first_ends(arcs.far, arcs.count), v.v);
+        settle(&mut mark, arcs, k);
         return mark;
     }
     spread(&mut mark, arcs, false);
