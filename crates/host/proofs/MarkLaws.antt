@@ -1,77 +1,48 @@
--- Marks as bytes: the loops over them, and there and back. Assumes nothing.
-use mathlib.Core.Path.{◌≡◌, refl, sym, ◌∙◌, ap}
-use mathlib.Core.Bool.{Bool, true, false, not, cond, ◌&&◌, ◌||◌}
+-- Marks as bytes: what makes the one of the other, and there and back. Assumes nothing.
+use mathlib.Core.Path.{◌≡◌, refl, sym, ◌∙◌, ap, subst}
+use mathlib.Core.Bool.{Bool, true, false, cond}
 use mathlib.Core.Logic.{⊎_elim}
-use mathlib.Core.List.{List, [], ◌∷◌, map, map-append}
+use mathlib.Core.List.{List, [], ◌∷◌, map}
 use Prim.Native.Nat.{ℕ, zero, suc, ◌+◌, ◌≤◌, ◌<◌}
 use native.Mathlib.Omega.{arith}
-use native.Mathlib.Decide.{dec_lt}
-use lib.Dec.{eqb, leb, ltb}
-use lib.ListN.{length, get_or, take, set, length-set}
-use lib.Seq.{take-suc, take-suc-set, take_all}
-use borrow.Author.Tests.{le-leb, lt-leb, lt-ltb, le-ltb}
-use Rattle.file.specs.Lists.{all_of}
+use native.Mathlib.Decide.{ℕ_discrete}
+use lib.Dec.{eqb, leb}
+use lib.ListN.{length, get_or}
+use Rattle.std.proofs.lemmas.List.{same_lists, get_or-map, length-map}
+use borrow.Author.Tests.{lt-leb}
+use mir.Val.{bool_byte}
+use denote.Param.Members.{Mut}
+use Rattle.std.specs.Fn.{Called}
+use Rattle.std.specs.Array.{IsFromFnResult, IsFromFnResultFrom}
 use Rattle.file.proofs.BoolLaws.{bool_cases, clash_bool, and_l, and_r}
-use Rattle.graph.proofs.ListLaws.{all_here, all_fails, all_append}
+use Rattle.graph.proofs.ListLaws.{all_here, all_fails}
 use Rattle.graph.specs.declared.CircuitDag.{CircuitDag}
 use Rattle.walk.specs.declared.ParallelBlocks.{ParallelBlocks}
 use Rattle.host.specs.declared.HostDag.{HostDag}
 use Rattle.host.specs.declared.HostWalk.{HostWalk}
 use Rattle.host.specs.Marks.{are_marks, marks_of, bytes_of, is_dag, dag_of, host_of, is_walk, walk_of, host_walk}
 
--- ---- the loop that tests bytes
+-- ---- an array made of a list, index by index
 
-pub record Tested (bytes : List ℕ) (above : Bool) (v : ℕ) : Type 0 where
-  pub low : v ≤ 512
-  pub long : length bytes ≡ 512
-  pub before : are_marks (take v bytes) ≡ not above
+module _ {F A B : Type 0} (g : Mut F (ℕ × Unit {0}) B) (f : F) (t : A → B) (l : List A) (d : A)
+    (each : (i : ℕ) (y : B) (q : F) → Called g f (i, tt) y q → (q ≡ f) × (y ≡ t (get_or l i d))) where
+  made_at : (ys : List B) (n i : ℕ) (p : F) → p ≡ f → IsFromFnResultFrom g p ys i n → (k : ℕ) (e : B) → i ≤ k → k < i + n → get_or ys k e ≡ t (get_or l k d)
+  made_at ys zero i p z m k e a b = absurd (omega arith)
+  made_at ys (suc n) i p z m k e a b =
+      let c = each i m.1 m.0 (subst (λ (w : F). Called g w (i, tt) m.1 m.0) z m.3) in
+      elim (ℕ_discrete k i) [
+        | yes s ↦ ap (λ (j : ℕ). get_or ys j e) s ∙ m.2.1 e ∙ c.1 ∙ ap (λ (j : ℕ). t (get_or l j d)) (sym s)
+        | no s ↦ made_at ys n (i + 1) m.0 c.0 m.4 k e (omega (arith, s)) (omega arith)
+      ]
 
-not_above : (b : ℕ) → leb b 1 ≡ not (ltb 1 b)
-not_above b = elim (dec_lt 1 b) [ yes l ↦ rw (lt-leb b 1 l, lt-ltb 1 b l) refl | no m ↦ rw (le-leb b 1 (omega arith), le-ltb 1 b (omega arith)) refl ]
+  pub made_of : (ys : List B) (n : ℕ) → length l ≡ n → IsFromFnResult g f ys n → ys ≡ map t l
+  made_of ys n long m = same_lists ys (map t l) (omega (arith, length-map l t, long, m.long)) (λ k e b.
+      made_at ys n 0 f refl m.each k e (omega arith) (omega (arith, m.long)) ∙ sym (get_or-map t l k d e (omega (arith, long, m.long))))
 
-only_one : (p : ℕ → Bool) (b : ℕ) → all_of p (b ∷ []) ≡ p b
-unfolding all_of
-only_one p b = ⊎_elim (λ (e : p b ≡ true). all_here p b [] e ∙ sym e) (λ (e : p b ≡ false). all_fails p b [] e ∙ sym e) (bool_cases (p b))
-
-one_more : (a b : Bool) → (not a && not b) ≡ not (a || b)
-one_more true b = refl
-one_more false b = refl
-
-pub tested_more : {bytes : List ℕ} {above : Bool} {v : ℕ} → Tested bytes above v → v < 512 → Tested bytes (above || ltb 1 (get_or bytes v 0)) (v + 1)
-unfolding are_marks
-tested_more {bytes} {above} {v} i h = record {
-  low = omega arith;
-  long = i.long;
-  before =
-      let z : v + 1 ≡ suc v = omega arith in
-      let k : v < length bytes = omega (arith, i.long) in
-      rw (z, take-suc bytes v 0 k, all_append (λ (b : ℕ). leb b 1) (take v bytes) (get_or bytes v 0 ∷ []), i.before, only_one, not_above) (one_more above _);
-}
-
--- ---- the loops that make marks of bytes, and bytes of marks
-
-module _ {A B : Type 0} where
-  pub record Mapped (f : A → B) (l : List A) (r : List B) (v : ℕ) : Type 0 where
-    pub low : v ≤ 512
-    pub long : length l ≡ 512
-    pub room : length r ≡ 512
-    pub before : take v r ≡ map f (take v l)
-
-  pub mapped_more : {f : A → B} {l : List A} {r : List B} {v : ℕ} (d : A) → Mapped f l r v → v < 512 → Mapped f l (set r v (f (get_or l v d))) (v + 1)
-  mapped_more {f} {l} {r} {v} d i h = record {
-    low = omega arith;
-    long = i.long;
-    room = rw length-set i.room;
-    before =
-        let z : v + 1 ≡ suc v = omega arith in
-        let k : v < length l = omega (arith, i.long) in
-        let m : v < length r = omega (arith, i.room) in
-        rw (z, take-suc-set r v (f (get_or l v d)) m, i.before, take-suc l v d k) (sym (map-append f (take v l) (get_or l v d ∷ [])));
-  }
-
-  pub mapped-done : {f : A → B} {l : List A} {r : List B} {v : ℕ} → Mapped f l r v → 512 ≤ v → r ≡ map f l
-  mapped-done {f} {l} {r} {v} i h =
-      sym (take_all v r (omega (arith, i.room))) ∙ i.before ∙ ap (map f) (take_all v l (omega (arith, i.long)))
+-- a mark's byte, as `u8::from` says it
+pub byte_mark : (b : Bool) → bool_byte b ≡ cond b 1 0
+byte_mark true = refl
+byte_mark false = refl
 
 -- ---- there and back
 

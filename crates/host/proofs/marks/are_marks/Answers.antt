@@ -1,12 +1,12 @@
-use Rattle.std.proofs.Common.{refl, arith}
-use Rattle.file.specs.Lists.{all_of}
+use Rattle.std.proofs.Common.{true, ◌&&◌, ◌∙◌, leb, rules, tests}
+use Rattle.std.proofs.lemmas.Iterator.{YieldsList-from_slice}
+use Rattle.std.proofs.lemmas.Iterator.Consumers.{fold_from_yields_List}
+use Rattle.graph.proofs.ListLaws.{fold_all}
 use Rattle.host.specs.Marks.{are_marks}
-use Rattle.host.proofs.MarkLaws.{tested_more}
 use Rattle.host.proofs.marks.are_marks.Goals as goal
 
-pub loop-b-init : goal.loop-b-init
-unfolding are_marks all_of
-loop-b-init c = record { low = omega arith; long = c.told-bytes; before = refl }
-
-pub loop-b-preserved : goal.loop-b-preserved
-loop-b-preserved c = tested_more c.loop-b.invariant (omega (arith, c.told-bytes, c.loop-b-test.true))
+pub returns : goal.returns
+unfolding are_marks
+returns c =
+    fold_from_yields_List _ (λ fit b. fit && leb b 1) true _ c.fold.ensures.ran (YieldsList-from_slice c.args.bytes.now cc) (λ a x b q k. search (rules, tests))
+    ∙ fold_all (λ b. leb b 1) true c.args.bytes.now
