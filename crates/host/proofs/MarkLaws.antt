@@ -1,11 +1,10 @@
 -- Marks as bytes: what makes the one of the other, and there and back. Assumes nothing.
-use mathlib.Core.Path.{◌≡◌, refl, sym, ◌∙◌, ap, subst}
+use mathlib.Core.Path.{◌≡◌, refl, sym, ◌∙◌, ap}
 use mathlib.Core.Bool.{Bool, true, false, cond}
 use mathlib.Core.Logic.{⊎_elim}
 use mathlib.Core.List.{List, [], ◌∷◌, map}
-use Prim.Native.Nat.{ℕ, zero, suc, ◌+◌, ◌≤◌, ◌<◌}
+use Prim.Native.Nat.{ℕ, zero, suc}
 use native.Mathlib.Omega.{arith}
-use native.Mathlib.Decide.{ℕ_discrete}
 use lib.Dec.{eqb, leb}
 use lib.ListN.{length, get_or}
 use Rattle.std.proofs.lemmas.List.{same_lists, get_or-map, length-map}
@@ -13,9 +12,9 @@ use borrow.Author.Tests.{lt-leb}
 use mir.Val.{bool_byte}
 use denote.Param.Members.{Mut}
 use Rattle.std.specs.Fn.{Called}
-use Rattle.std.specs.Array.{IsFromFnResult, IsFromFnResultFrom}
+use Rattle.std.specs.Array.{IsFromFnResult}
 use Rattle.file.proofs.BoolLaws.{bool_cases, clash_bool, and_l, and_r}
-use Rattle.graph.proofs.ListLaws.{all_here, all_fails}
+use Rattle.graph.proofs.ListLaws.{all_here, all_fails, from_calls}
 use Rattle.graph.specs.declared.CircuitDag.{CircuitDag}
 use Rattle.walk.specs.declared.ParallelBlocks.{ParallelBlocks}
 use Rattle.host.specs.declared.HostDag.{HostDag}
@@ -26,18 +25,9 @@ use Rattle.host.specs.Marks.{are_marks, marks_of, bytes_of, is_dag, dag_of, host
 
 module _ {F A B : Type 0} (g : Mut F (ℕ × Unit {0}) B) (f : F) (t : A → B) (l : List A) (d : A)
     (each : (i : ℕ) (y : B) (q : F) → Called g f (i, tt) y q → (q ≡ f) × (y ≡ t (get_or l i d))) where
-  made_at : (ys : List B) (n i : ℕ) (p : F) → p ≡ f → IsFromFnResultFrom g p ys i n → (k : ℕ) (e : B) → i ≤ k → k < i + n → get_or ys k e ≡ t (get_or l k d)
-  made_at ys zero i p z m k e a b = absurd (omega arith)
-  made_at ys (suc n) i p z m k e a b =
-      let c = each i m.1 m.0 (subst (λ (w : F). Called g w (i, tt) m.1 m.0) z m.3) in
-      elim (ℕ_discrete k i) [
-        | yes s ↦ ap (λ (j : ℕ). get_or ys j e) s ∙ m.2.1 e ∙ c.1 ∙ ap (λ (j : ℕ). t (get_or l j d)) (sym s)
-        | no s ↦ made_at ys n (i + 1) m.0 c.0 m.4 k e (omega (arith, s)) (omega arith)
-      ]
-
   pub made_of : (ys : List B) (n : ℕ) → length l ≡ n → IsFromFnResult g f ys n → ys ≡ map t l
   made_of ys n long m = same_lists ys (map t l) (omega (arith, length-map l t, long, m.long)) (λ k e b.
-      made_at ys n 0 f refl m.each k e (omega arith) (omega (arith, m.long)) ∙ sym (get_or-map t l k d e (omega (arith, long, m.long))))
+      from_calls g f ys n (λ i. t (get_or l i d)) m each k e (omega (arith, m.long)) ∙ sym (get_or-map t l k d e (omega (arith, long, m.long))))
 
 -- a mark's byte, as `u8::from` says it
 pub byte_mark : (b : Bool) → bool_byte b ≡ cond b 1 0
