@@ -5,12 +5,15 @@ use mathlib.Core.Logic.{⊎_elim}
 use mathlib.Core.List.{List}
 use Prim.Native.Nat.{ℕ, ◌≤◌, ◌<◌}
 use native.Mathlib.Omega.{arith}
+use native.Mathlib.Decide.{dec_lt}
 use lib.Dec.{leb}
-use borrow.Author.Tests.{leb-true, le-ltb}
-use Rattle.accessors.specs.Accessors.{get}
+use lib.ListN.{length, get_or-eq_default}
+use borrow.Author.Tests.{leb-true, lt-ltb, le-ltb}
+use Rattle.accessors.specs.Accessors.{get, operation_of, first_involving_qubit, last_involving_qubit}
 use Rattle.file.proofs.BoolLaws.{bool_cases, and_l}
 use Rattle.graph.specs.declared.CircuitDag.{CircuitDag}
-use Rattle.graph.specs.Dag.{size}
+use Rattle.graph.specs.declared.End.{End}
+use Rattle.graph.specs.Dag.{size, absent, at_qubit}
 use Rattle.graph.specs.Soundness.{sound, check_sound}
 use Rattle.file.specs.declared.Refusal.{Refusal}
 use Rattle.queries.proofs.QueryLaws.{not_sound}
@@ -19,8 +22,8 @@ use Rattle.queries.specs.Queries.{Lent, refuses, execution_blocked, blocking_pre
 use Rattle.queries.proofs.QueryLaws.{successors_unsound, successors-absent, blocked_unsound, blocked_absent, predecessors_unsound}
 use Rattle.queries.proofs.QueryLaws.{predecessors_absent, layer_unsound, layer_absent}
 use Rattle.file.specs.declared.Refusal.TheVariants.{Absent, Unsound}
-use Rattle.host.specs.Answers.{HostLent, no_node, lent}
-use Rattle.std.specs.Prelude.{Err}
+use Rattle.host.specs.Answers.{HostLent, no_node, lent, of_operation, involving_qubit}
+use Rattle.std.specs.Prelude.{Err, None}
 
 few_nodes : (g : CircuitDag) → sound g ≡ true → size g ≤ 512
 few_nodes g h =
@@ -61,3 +64,22 @@ got_unsound g v c e = let p = not_sound g c e in rw (p.0, p.1) refl
 pub got_beyond : (g : CircuitDag) (v : ℕ) → 65535 < v → sound g ≡ true → Err Absent ≡ get g v
 unfolding get
 got_beyond g v h e = rw (e, le-ltb v (size g) (omega (arith, few_nodes g e))) refl
+
+-- a qubit past an end's map names no node
+past_map : (e : End) (q : ℕ) → length e.node ≡ 64 → 64 ≤ q → operation_of (at_qubit e q) ≡ None
+past_map e q long h = rw (get_or-eq_default e.node absent {n = q} (omega arith)) refl
+
+module _ (g : CircuitDag) (q : ℕ) where
+  pub first_of_qubit : length g.first.node ≡ 64 → of_operation (first_involving_qubit g q) ≡ involving_qubit true q g
+  unfolding first_involving_qubit last_involving_qubit
+  first_of_qubit long = elim (dec_lt q 64) [
+    | yes l ↦ rw (lt-ltb q 64 l) refl
+    | no n ↦ rw (le-ltb q 64 (omega arith), past_map g.first q long (omega arith)) refl
+  ]
+
+  pub last_of_qubit : length g.last.node ≡ 64 → of_operation (last_involving_qubit g q) ≡ involving_qubit false q g
+  unfolding first_involving_qubit last_involving_qubit
+  last_of_qubit long = elim (dec_lt q 64) [
+    | yes l ↦ rw (lt-ltb q 64 l) refl
+    | no n ↦ rw (le-ltb q 64 (omega arith), past_map g.last q long (omega arith)) refl
+  ]

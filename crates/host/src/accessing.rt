@@ -69,8 +69,7 @@ pub extern "C" fn sawhekonu_last_parallel_block(dag: HostDag, buffer: &mut [u16]
     HostAnswer::from(accessors::last_parallel_block(dag_of(dag), buffer))
 }
 
-// The first or last operation that involves a qubit; a qubit over 63 has none. Behind that test the cast keeps the
-// number: try_from would be a second test.
+// The first or last operation that involves a qubit; a qubit over 63 has none.
 fn operation_of_qubit(first: bool, dag: &HostDag, qubit: usize) -> HostAnswer
     ensures { result ≡ asked dag.now (involving_qubit first qubit) }
 {
@@ -78,14 +77,13 @@ fn operation_of_qubit(first: bool, dag: &HostDag, qubit: usize) -> HostAnswer
         return HostAnswer::from(Refusal::Unsound);
     }
     let g = dag_of(*dag);
-    if 64 <= qubit {
+    let Ok(q) = u8::try_from(qubit) else {
         return no_operation(g);
-    }
-    let q = Qubit(qubit as u8);
+    };
     if first {
-        HostAnswer::from(accessors::first_operation_involving_qubit(g, q))
+        HostAnswer::from(accessors::first_operation_involving_qubit(g, Qubit(q)))
     } else {
-        HostAnswer::from(accessors::last_operation_involving_qubit(g, q))
+        HostAnswer::from(accessors::last_operation_involving_qubit(g, Qubit(q)))
     }
 }
 

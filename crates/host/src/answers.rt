@@ -1,12 +1,13 @@
 // Each answer of the crates below as two numbers, for C has no Result and no Option: 65535 is none. The conversions of a
 // Result differ in what an accepted call found; a generic one would need a trait with the same five cases.
 ghost use Rattle.std.specs.Prelude.{◌≡◌};
-ghost use Rattle.host.specs.Answers.{accepts, refuses, no_node, of_count, of_inserted, of_loaded, of_step, of_place, of_got, of_operation, no_operation};
+ghost use Rattle.host.specs.Answers.{accepts, refuses, no_node, of_count, of_inserted, of_loaded, of_step, of_place, of_got, of_operation, no_operation, graph_loaded, graph_inserted};
 
-use crate::{HostAnswer, HostNode, HostPlace};
+use crate::{HostAnswer, HostDag, HostGraph, HostNode, HostPlace};
 use accessors::KeptNode;
 use file::{Place, Refusal};
 use graph::{CircuitDag, NodeIndex, check_sound};
+use insertion::{Inserted, Loaded};
 
 fn accept(n: usize) -> HostAnswer
     ensures { result ≡ accepts n }
@@ -80,6 +81,28 @@ impl From<Result<Option<NodeIndex>, Refusal>> for HostAnswer {
             Ok(Some(v)) => accept(usize::from(v.0)),
             Ok(None) => accept(65535),
             Err(c) => HostAnswer::from(c),
+        }
+    }
+}
+
+impl From<Loaded> for HostGraph {
+    ghost from_gives = { λ x r. r ≡ graph_loaded x };
+
+    fn from(x: Loaded) -> HostGraph {
+        HostGraph {
+            answer: HostAnswer::from(x.answer),
+            graph: HostDag::from(x.graph),
+        }
+    }
+}
+
+impl From<Inserted> for HostGraph {
+    ghost from_gives = { λ x r. r ≡ graph_inserted x };
+
+    fn from(x: Inserted) -> HostGraph {
+        HostGraph {
+            answer: HostAnswer::from(x.answer),
+            graph: HostDag::from(x.graph),
         }
     }
 }

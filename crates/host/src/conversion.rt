@@ -13,11 +13,7 @@ use file::Refusal;
 pub extern "C" fn sawhekonu_from_circuit(file: &[u8]) -> HostGraph
     ensures { result ≡ graph_loaded (from_circuit file.now) }
 {
-    let x = insertion::from_circuit(file);
-    HostGraph {
-        answer: HostAnswer::from(x.answer),
-        graph: HostDag::from(x.graph),
-    }
+    HostGraph::from(insertion::from_circuit(file))
 }
 
 #[unsafe(no_mangle)]

@@ -1,7 +1,7 @@
 // The graph and the walk as they cross to C: what came as ours, and ours as what goes. A walk that came is taken by
 // TryFrom. A graph is tested first and then taken as it is: TryFrom was tried, and moves its 16 KB once more, out of the
 // Result. execution_blocked on 256 two-qubit gates in a brick wall was then 0.93 to 1.00 times as fast as the original's,
-// in three runs; the bar is 1.1, and so it is 1.19 to 1.25.
+// in three runs; the bar is 1.1, and so it is 1.19 to 1.40. No From either: it would take bytes that are no marks.
 ghost use Rattle.std.specs.Prelude.{◌≡◌};
 ghost use Rattle.host.specs.Marks.{end_of, host_end, is_dag, dag_of, host_of, walk_from, host_walk};
 

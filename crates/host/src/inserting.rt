@@ -24,11 +24,7 @@ pub extern "C" fn sawhekonu_new() -> HostDag
 fn load_file(rule: LoadingRule, file: &[u8]) -> HostGraph
     ensures { result ≡ graph_loaded (load_by rule file.now) }
 {
-    let x = insertion::load_by(rule, file);
-    HostGraph {
-        answer: HostAnswer::from(x.answer),
-        graph: HostDag::from(x.graph),
-    }
+    HostGraph::from(insertion::load_by(rule, file))
 }
 
 #[unsafe(no_mangle)]
@@ -55,11 +51,7 @@ fn insert_record(rule: LoadingRule, dag: HostDag, part: &[u8]) -> HostGraph
             graph: dag,
         };
     }
-    let x = insertion::insert_by(rule, dag_of(dag), part);
-    HostGraph {
-        answer: HostAnswer::from(x.answer),
-        graph: HostDag::from(x.graph),
-    }
+    HostGraph::from(insertion::insert_by(rule, dag_of(dag), part))
 }
 
 #[unsafe(no_mangle)]
