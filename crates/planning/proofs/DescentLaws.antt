@@ -1,13 +1,14 @@
 -- The code of the chain: each loop's invariant, what keeps it, and that the descent over the arrays is the chain. Assumes nothing.
-use mathlib.Core.Path.{◌≡◌, refl, sym, ◌∙◌, ap, subst}
-use mathlib.Core.Bool.{true, false, ◌&&◌}
+use mathlib.Core.Path.{◌≡◌, refl, sym, ◌∙◌, ap}
+use mathlib.Core.Bool.{Bool, true, false, cond, ◌&&◌}
 use mathlib.Core.Logic.{◌⊎◌, inl, inr, ⊎_elim}
 use mathlib.Core.List.{List, [], ◌∷◌, ◌++◌, append-nil}
-use Prim.Native.Nat.{ℕ, suc, ◌+◌, ◌-◌, ◌≤◌, ◌<◌, min}
+use Prim.Native.Nat.{ℕ, zero, suc, ◌+◌, ◌-◌, ◌≤◌, ◌<◌, min}
 use native.Mathlib.Omega.{arith}
 use borrow.Rule.Slice.PartMut.{mid_of, put_mid}
 use lib.Seq.{drop-length, take-length, drop-drop, length-take-le, get_or-take}
 use native.Mathlib.Decide.{dec_lt}
+use lib.Dec.{eqb}
 use lib.ListN.{length, get_or, set, take, drop, replicate, length-drop, length-replicate, get_or-append}
 use borrow.Author.Tests.{eqb-true, eq-eqb}
 use Rattle.file.specs.Lists.{onto, put_at}
@@ -17,7 +18,7 @@ use Rattle.graph.specs.declared.CircuitDag.{CircuitDag}
 use Rattle.graph.specs.Dag.{absent, size}
 use Rattle.graph.specs.Soundness.{sound}
 use Rattle.queries.specs.Queries.{Lent}
-use Rattle.file.proofs.BoolLaws.{bool_cases, and_l, and_r, and_intro, split_lt}
+use Rattle.file.proofs.BoolLaws.{bool_cases, and_l, and_r, and_intro}
 use Rattle.file.proofs.PutLaws.{put-none, put-onto}
 use Rattle.queries.proofs.BufferLaws.{answers_short, answers-whole}
 use Rattle.graph.proofs.ListLaws.{any_default}
@@ -31,9 +32,11 @@ use Rattle.walk.proofs.NumberLaws.{some_first, block_low}
 use Rattle.walk.proofs.WholeLaws.{walk_done}
 use Rattle.walk.proofs.WholeLaws.{walk_refused as walk_not_sound}
 use Rattle.planning.specs.Chain.{chain_of, chain}
-use Rattle.planning.specs.Descents.{InBlock, Leads, Before, Smallest, Descent, bottom, below, Descended}
+use Rattle.planning.specs.Descents.{InBlock, Before, Smallest, node_before, Descent, bottom, below, Descended}
 use Rattle.planning.proofs.ChainLaws.{E, F, blk, numbers_long, in_block_lem, least-is, top, top_in, chain-is, chain_long}
-use Rattle.std.specs.Prelude.{Result, Ok, Err}
+use Rattle.std.specs.Prelude.{Result, Ok, Err, Option, Some, None, unwrap_or}
+use Rattle.std.specs.List.{fold, reduce, filter_map, cons_option, range_with_len}
+use Rattle.std.proofs.lemmas.List.FromFn.{length-range_with_len, get_or-range_with_len}
 
 -- ---- the smallest node of a block
 
@@ -49,46 +52,101 @@ smallest_first number n t h S =
 
 -- ---- the smallest direct predecessor
 
-module _ (number from to : List ℕ) (m v t : ℕ) where
-  pub record Searching (best j : ℕ) : Type 0 where
-    pub joined : EndsBelow from to m
-    pub low : j ≤ m
-    pub least : (i : ℕ) → i < j → Leads number from to m v t i → best ≤ at from i
-    pub found : (best ≡ 65535) ⊎ Before number from to m v t best
+-- r is at most what f gives of a list's entries, and is one of these, or d
+record Least (f : ℕ → Option ℕ) (l : List ℕ) (d r : ℕ) : Type 0 where
+  least : (k u : ℕ) → k < length l → f (get_or l k 0) ≡ Some u → r ≤ u
+  found : (r ≡ d) ⊎ ((k : ℕ) × (k < length l) × (f (get_or l k 0) ≡ Some r))
 
-  pub search_begin : EndsBelow from to m → Searching 65535 0
-  search_begin J = record { joined = J; low = omega arith; least = λ i l h. absurd (omega arith); found = inl refl }
+same_some : {a b : ℕ} → Some a ≡ Some b → a ≡ b
+same_some {a} e = ap (λ (o : Option ℕ). unwrap_or o a) e
 
-  pub search_not : {best j : ℕ} → Searching best j → j < m → (Leads number from to m v t j → ⊥) → (new : ℕ) → new ≡ best → Searching new (j + 1)
-  search_not I h f new q = record {
-    joined = I.joined;
-    low = omega arith;
-    least = λ i l x. ⊎_elim (λ (k : i ≡ _). absurd (f (subst (Leads number from to m v t) k x))) (λ (k : i < _). omega (arith, I.least i k x)) (split_lt i _ l);
-    found = subst (λ (b : ℕ). (b ≡ 65535) ⊎ Before number from to m v t b) (sym q) I.found;
-  }
+not_some : {b : ℕ} → None ≡ Some b → ⊥
+not_some e = let z : ◌≡◌ {A = ℕ} 0 1 = ap (λ (o : Option ℕ). elim o [ None ↦ 0 | Some _ ↦ 1 ]) e in absurd (omega arith)
 
-  pub search_yes : {best j : ℕ} → Searching best j → j < m → at to j ≡ v → at number (at from j) ≡ t → (new : ℕ) → new ≡ min best (at from j) → Searching new (j + 1)
-  search_yes {best} {j} I h p q new e = record {
-    joined = I.joined;
-    low = omega arith;
-    least = λ i l x. ⊎_elim (λ (k : i ≡ j). omega (arith, ap (at from) k)) (λ (k : i < j). omega (arith, I.least i k x)) (split_lt i j l);
-    found = elim (dec_lt (at from j) best) [
-      | yes l ↦ inr (j, (h, p, q), omega arith)
-      | no l ↦ (let z : best ≡ new = omega arith in subst (λ (b : ℕ). (b ≡ 65535) ⊎ Before number from to m v t b) z I.found)
-    ];
-  }
-
-  pub search_done : {best j : ℕ} → Searching best j → m ≤ j → Smallest (Before number from to m v t) best
-  search_done {best} {j} I h = record {
-    least = lowest;
-    passes = λ u p. ⊎_elim
-        (λ (e : best ≡ 65535). absurd (omega (arith, lowest u p, p.2, I.joined.near_below p.0 p.1.0)))
-        (λ (b : Before number from to m v t best). b)
-        I.found;
+module _ (f : ℕ → Option ℕ) where
+  -- an entry in front of which f gives no less than r
+  in_front : {x d r : ℕ} {l : List ℕ} → ((u : ℕ) → f x ≡ Some u → r ≤ u) → Least f l d r → Least f (x ∷ l) d r
+  in_front {x} {d} {r} {l} h L = record {
+    least = reach;
+    found = ⊎_elim inl (λ p. inr (suc p.0, omega (arith, p.1), p.2)) L.found;
   }
     where
-      lowest : (u : ℕ) → Before number from to m v t u → best ≤ u
-      lowest u p = omega (arith, I.least p.0 (omega (arith, p.1.0)) p.1, p.2)
+      reach : (k u : ℕ) → k < length (x ∷ l) → f (get_or (x ∷ l) k 0) ≡ Some u → r ≤ u
+      reach zero u b q = h u q
+      reach (suc k) u b q = L.least k u (omega arith) q
+
+  -- one of which f gives r
+  here : {x r : ℕ} {l : List ℕ} (d : ℕ) → f x ≡ Some r → ((k u : ℕ) → k < length l → f (get_or l k 0) ≡ Some u → r ≤ u) → Least f (x ∷ l) d r
+  here {x} {r} {l} d e h = record { least = reach; found = inr (0, omega arith, e) }
+    where
+      reach : (k u : ℕ) → k < length (x ∷ l) → f (get_or (x ∷ l) k 0) ≡ Some u → r ≤ u
+      reach zero u b q = let z : r ≡ u = same_some (sym e ∙ q) in omega arith
+      reach (suc k) u b q = h k u (omega arith) q
+
+  -- looked for from a on
+  abbrev Found : List ℕ → ℕ → ℕ → Type 0
+  Found l a r = (r ≤ a) × Least f l a r
+
+  fold_least : (l : List ℕ) (a : ℕ) → Found l a (fold min a (filter_map f l))
+  fold_least [] a = (omega arith, record { least = λ k u h. absurd (omega arith); found = inl refl })
+  fold_least (x ∷ l) a = by (fold_least l) (f x) refl
+    where
+      by : ((b : ℕ) → Found l b (fold min b (filter_map f l))) → (o : Option ℕ) → f x ≡ o → Found (x ∷ l) a (fold min a (cons_option o (filter_map f l)))
+      by more None e = let R = more a in (R.0, in_front (λ u q. absurd (not_some (sym e ∙ q))) R.1)
+      by more (Some y) e =
+          let R = more (min a y) in
+          let r = fold min (min a y) (filter_map f l) in (
+            omega (arith, R.0),
+            ⊎_elim
+                (λ (q : r ≡ min a y). elim (dec_lt y a) [
+                  | yes b ↦ here a (e ∙ ap Some (omega (arith, q))) R.1.least
+                  | no b ↦ in_front (λ u z. omega (arith, R.0, same_some (sym e ∙ z))) (record { least = R.1.least; found = inl (omega (arith, q)) })
+                ])
+                (λ p. in_front (λ u z. omega (arith, R.0, same_some (sym e ∙ z))) (record { least = R.1.least; found = inr p }))
+                R.1.found,
+          )
+
+  reduce_least : (l : List ℕ) (d : ℕ) → Least f l d (unwrap_or (reduce min (filter_map f l)) d)
+  reduce_least [] d = record { least = λ k u h. absurd (omega arith); found = inl refl }
+  reduce_least (x ∷ l) d = by (reduce_least l d) (f x) refl
+    where
+      by : Least f l d (unwrap_or (reduce min (filter_map f l)) d) → (o : Option ℕ) → f x ≡ o → Least f (x ∷ l) d (unwrap_or (reduce min (cons_option o (filter_map f l))) d)
+      by more None e = in_front (λ u q. absurd (not_some (sym e ∙ q))) more
+      by more (Some y) e =
+          let R = fold_least l y in
+          let r = fold min y (filter_map f l) in
+          ⊎_elim
+          (λ (q : r ≡ y). here d (e ∙ ap Some (sym q)) R.1.least)
+          (λ p. in_front (λ u z. omega (arith, R.0, same_some (sym e ∙ z))) (record { least = R.1.least; found = inr p }))
+          R.1.found
+
+-- of the arcs below m the least node that one comes from
+module _ (number from to : List ℕ) (m v t : ℕ) (J : EndsBelow from to m) where
+  before_of : (j u : ℕ) → node_before number from to v t j ≡ Some u → (at to j ≡ v) × (at number (at from j) ≡ t) × (at from j ≡ u)
+  before_of j u e = by (eqb (at to j) v && eqb (at number (at from j)) t) refl e
+    where
+      by : (b : Bool) → (eqb (at to j) v && eqb (at number (at from j)) t) ≡ b → cond b (Some (at from j)) None ≡ Some u → (at to j ≡ v) × (at number (at from j) ≡ t) × (at from j ≡ u)
+      by true q z = (eqb-true _ _ (and_l (eqb (at to j) v) (eqb (at number (at from j)) t) q), eqb-true _ _ (and_r (eqb (at to j) v) (eqb (at number (at from j)) t) q), same_some z)
+      by false q z = absurd (not_some z)
+
+  pub smallest_before : (r : ℕ) → r ≡ unwrap_or (reduce min (filter_map (node_before number from to v t) (range_with_len 0 m))) 65535 → Smallest (Before number from to m v t) r
+  smallest_before r e = rw e (record {
+    least = λ u p. lowest u p;
+    passes = λ u p. ⊎_elim
+        (λ q. absurd (omega (arith, lowest u p, q, p.2, J.near_below p.0 p.1.0)))
+        (λ w. let o = listed w.0 (omega (arith, w.1, length-range_with_len 0 m)) in let b = before_of w.0 _ (rw o at w.2) in (w.0, (omega (arith, w.1, length-range_with_len 0 m), b.0, b.1), b.2))
+        L.found;
+  })
+    where
+      listed : (k : ℕ) → k < m → get_or (range_with_len 0 m) k 0 ≡ k
+      listed k h = get_or-range_with_len 0 m k 0 h ∙ (let z : 0 + k ≡ k = omega arith in z)
+
+      L : Least (node_before number from to v t) (range_with_len 0 m) 65535 (unwrap_or (reduce min (filter_map (node_before number from to v t) (range_with_len 0 m))) 65535)
+      L = reduce_least (node_before number from to v t) (range_with_len 0 m) 65535
+
+      lowest : (u : ℕ) → Before number from to m v t u → unwrap_or (reduce min (filter_map (node_before number from to v t) (range_with_len 0 m))) 65535 ≤ u
+      lowest u p = L.least p.0 u (omega (arith, p.1.0, length-range_with_len 0 m))
+          (rw (listed p.0 p.1.0, eq-eqb _ _ p.1.1, eq-eqb _ _ p.1.2) (ap Some p.2))
 
 -- ---- the descent in the lent buffer
 

@@ -1,7 +1,7 @@
 // The chain: from the smallest node of the last block down to block 0.
 ghost use Rattle.std.specs.Prelude.{◌≡◌, ◌+◌, ◌≤◌, ◌<◌, length};
 ghost use Rattle.planning.specs.Chain.{chain as chain_rule};
-ghost use Rattle.planning.specs.Descents.{InBlock, Before, Smallest, Descended};
+ghost use Rattle.planning.specs.Descents.{InBlock, Before, Smallest, node_before, Descended};
 
 use file::Refusal;
 use graph::{CircuitDag, NodeIndex};
@@ -28,21 +28,25 @@ struct Numbered<'n, 'a> {
 }
 
 impl Numbered<'_, '_> {
-    // The smallest direct predecessor of v with the block's number. It goes over indices: two arrays cut to the count
-    // and zipped would say no more.
+    // The node that arc j comes from, if it leads to v from a node with the block's number.
+    fn node_before(&self, j: usize, v: NodeIndex, block: usize) -> Option<u16>
+        requires { j < self.now.arcs.count }
+        ensures { result ≡ node_before self.now.number.now self.now.arcs.near.now self.now.arcs.far.now v.0 block j }
+    {
+        let node = self.arcs.near[j];
+        let before = self.arcs.far[j] == v.0
+            && usize::from(self.number[usize::from(node)]) == block;
+        before.then_some(node)
+    }
+
+    // The smallest direct predecessor of v with the block's number.
     fn smallest_predecessor(&self, v: NodeIndex, block: usize) -> NodeIndex
         ensures { Smallest
             (Before self.now.number.now self.now.arcs.near.now self.now.arcs.far.now self.now.arcs.count v.0 block)
             result.0 }
     {
-        let mut best: u16 = 65535;
-        for j in 0..self.arcs.count {
-            let node = self.arcs.near[j];
-            if self.arcs.far[j] == v.0 && usize::from(self.number[usize::from(node)]) == block {
-                best = best.min(node);
-            }
-        }
-        NodeIndex(best)
+        let nodes = (0..self.arcs.count).filter_map(|j| self.node_before(j, v, block));
+        NodeIndex(nodes.min().unwrap_or(65535))
     }
 
     // The chain from v on, a node of the block, over the buffer's first entries: each call is for a direct predecessor,

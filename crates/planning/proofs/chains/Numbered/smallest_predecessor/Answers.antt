@@ -1,16 +1,16 @@
-use Rattle.std.proofs.Common.{sym, ◌∙◌}
-use Rattle.planning.proofs.DescentLaws.{search_not, search_yes}
+use Rattle.std.proofs.Common.{◌∙◌, sym, ap, rules, tests}
+use Rattle.std.specs.Option.{unwrap_or}
+use Rattle.std.proofs.lemmas.Iterator.Adapters.{option_map_id}
+use Rattle.std.proofs.lemmas.Iterator.{YieldsList-from_range}
+use Rattle.std.proofs.lemmas.Iterator.Consumers.{YieldsList-from_filter_map, min_from_yields_List}
+use Rattle.planning.specs.Descents.{node_before}
+use Rattle.planning.proofs.DescentLaws.{smallest_before}
 use Rattle.planning.proofs.chains.Numbered.smallest_predecessor.Goals as goal
-use Rattle.planning.proofs.chains.Numbered.smallest_predecessor.Goals.{then-self-j+then-from-block, else-self-j, else-self-j-via-then-self-j+else-from-block, else-self-j-via-else-self-j}
 
-pub loop-j-preserved : goal.loop-j-preserved
-loop-j-preserved c =
-    let I = c.loop-j.invariant in
-    let h = c.loop-j-test.true in
-    elim c.if-self-j.branch [
-      | then-self-j+then-from-block w ↦ search_yes _ _ _ _ _ _ I h w.if-self-j.true (sym (rw w.from.ensures at w.from-then-self-j.ensures) ∙ w.if-from-block.true) _ (w.best-is ∙ w.min-best.ensures)
-      | else-self-j w ↦ elim w.else-self-j.branch [
-        | else-self-j-via-then-self-j+else-from-block x ↦ search_not _ _ _ _ _ _ I h (λ l. x.if-from-block.false ((rw x.from.ensures at x.from-then-self-j.ensures) ∙ l.2)) _ w.best-is
-        | else-self-j-via-else-self-j x ↦ search_not _ _ _ _ _ _ I h (λ l. x.if-self-j.false l.1) _ w.best-is
-      ]
-    ]
+pub returns : goal.returns
+returns c =
+    let x = c.args.self.now in
+    let least = min_from_yields_List _ _ c.min.ensures.ran
+    (YieldsList-from_filter_map _ (node_before x.number.now x.arcs.near.now x.arcs.far.now c.args.v.0 c.args.block)
+    (YieldsList-from_range 0 x.arcs.count x.arcs.count c.filter_map-nodes.ensures.source (search rules)) c.filter_map-nodes.ensures.closure (λ x r q k. search (rules, tests))) in
+    smallest_before _ _ _ _ _ _ x.arcs.below _ (c.unwrap_or.ensures ∙ ap (λ o. unwrap_or o 65535) (sym (option_map_id c.min.result) ∙ least))
