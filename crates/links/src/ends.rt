@@ -23,7 +23,8 @@ enum Members {
     Several,
 }
 
-// One end as insertions hold it. From qubit top on its map has no entry, and members is known of its block, so that few entries are read.
+// One end as insertions hold it. From qubit top on its map has no entry, and members is known of its block, so that few
+// entries are read.
 #[derive(Drop)]
 pub(crate) struct WorkingEnd {
     end: End,
@@ -115,14 +116,12 @@ impl WorkingEnd {
         self.members = Members::Several;
     }
 
-    // v joins the block, if it does: by a bool, as the rule's link_set joins it by a `cond`.
-    fn join_block(&mut self, v: Node, joins: bool)
-        ensures { self.new ≡ record self.old { block = cond joins (set self.old.block v.number.0 true) self.old.block } }
+    // v joins the block.
+    fn join_block(&mut self, v: Node)
+        ensures { self.new ≡ record self.old { block = set self.old.block v.number.0 true } }
     {
-        if joins {
-            self.end.block[v.index()] = true;
-            self.members = Members::Several;
-        }
+        self.end.block[v.index()] = true;
+        self.members = Members::Several;
     }
 
     // "lastAll becomes v; the last block becomes {v}".
@@ -241,8 +240,8 @@ pub(crate) fn edges_pass(edges: usize, k: usize, qubits: InvolvedQubits) -> bool
     2048 < edges + k
 }
 
-// near, far and others stand as three parameters in what follows: methods of a struct of three `&mut` would name them by nested pairs of what it
-// leaves, and would have to say besides that each still refers to the same value.
+// near, far and others stand as three parameters in what follows: methods of a struct of three `&mut` would name them by
+// nested pairs of what it leaves, and would have to say besides that each still refers to the same value.
 // "Set, each qubit q": a qubit that is new at the near end becomes fresh at the far end.
 fn link_qubit(
     near: &mut WorkingEnd,
@@ -287,7 +286,9 @@ fn join_set(
     for q in Qubits::of(mask) {
         link_qubit(near, far, others, q, fresh, v);
     }
-    far.join_block(v, others.len() == 0);
+    if others.len() == 0 {
+        far.join_block(v);
+    }
 }
 
 // Whether both maps are empty.

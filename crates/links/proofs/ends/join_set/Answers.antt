@@ -1,3 +1,5 @@
+use Rattle.std.proofs.Common.{refl, sym, ◌∙◌}
+use borrow.Author.Tests.{eq-eqb, ne_eqb}
 use Rattle.links.proofs.LinkLaws.{steady_rule}
 use Rattle.links.proofs.JoinLaws.{linking_begins, linking_room, linking_goes, linking_ends}
 use Rattle.links.proofs.ends.join_set.Goals as goal
@@ -13,5 +15,12 @@ loop-q-preserved c =
     let e = c.link_qubit.ensures in
     linking_goes _ _ _ _ _ _ _ _ _ _ c.loop-q.invariant (steady_rule c.args.rule) _ _ c.in-Some.ensures.steps _ _ _ e.near e.far e.others
 
-pub returns : goal.returns
-returns c = linking_ends _ _ _ _ _ _ _ _ _ _ c.loop-q.invariant c.in-None.ensures.steps.0 _ (rw c.len.ensures.counted at c.join_block.ensures)
+pub returns-then-len-eq0 : goal.returns-then-len-eq0
+returns-then-len-eq0 c =
+    let empty = eq-eqb _ _ (sym c.len.ensures.counted ∙ c.if-len-eq0.true) in
+    linking_ends _ _ _ _ _ _ _ _ _ _ c.loop-q.invariant c.in-None.ensures.steps.0 _ (rw empty c.join_block.ensures)
+
+pub returns-else-len-eq0 : goal.returns-else-len-eq0
+returns-else-len-eq0 c =
+    let some = ne_eqb _ _ (λ e. c.if-len-eq0.false (c.len.ensures.counted ∙ e)) in
+    linking_ends _ _ _ _ _ _ _ _ _ _ c.loop-q.invariant c.in-None.ensures.steps.0 _ (rw some refl)
