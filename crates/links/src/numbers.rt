@@ -4,7 +4,8 @@ ghost use Rattle.std.specs.Prelude.{◌≡◌, true, ◌<◌, ◌≤◌, MatchRe
 use file::Refusal;
 use graph::{NodeIndex, Qubit};
 
-// A node of a graph. Crate queries has one of its own: in graph, `named` would be public and ask something.
+// A node of a graph. Crate queries has one of its own: what the two are asked for differs, so that of one in graph these
+// methods would be functions, or public ones there.
 #[derive(Clone, Copy)]
 pub(crate) struct Node {
     pub(crate) number: NodeIndex,

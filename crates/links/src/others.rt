@@ -8,7 +8,9 @@ ghost use Rattle.links.specs.Ends.{with_edge};
 use graph::{Edges, NodeIndex};
 use std::marker::Model;
 
-// At most 64 nodes, in the order in which they came: an array with its count, since the library has no heap.
+// At most 64 nodes, in the order in which they came: an array with its count, since the library has no heap and stands on
+// std alone. report's Writer is one too, which keeps zeros behind its text and hands both out: of a type for both, public
+// and below both, it would have to say that besides.
 #[derive(Drop)]
 pub(crate) struct Others {
     node: [u16; 64],

@@ -158,8 +158,8 @@ impl Links {
 }
 
 // Record i, at this end and with these qubits, as node v, on the ends and edges of a graph with v nodes: 11 where an
-// end names another node or there are too many edges, then 5, 6. A refusal leaves them as they were. Its parameters are
-// a record's and document 01's parts of a graph: a struct of them would be made for this one call.
+// end names another node or there are too many edges, then 5, 6. A refusal leaves them as they were. It is handed
+// qubits and no record (docs/DECISIONS.md, 8), and document 01's parts of a graph, which it hands back in LinkedRecords.
 pub fn link_node(
     rule: LoadingRule,
     i: usize,
