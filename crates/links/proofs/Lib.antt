@@ -5,3 +5,4 @@ pub mod EdgeLaws
 pub mod EndLaws
 pub mod JoinLaws
 pub mod LinkingLaws
+pub mod ResultLaws

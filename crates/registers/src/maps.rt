@@ -1,6 +1,6 @@
 // The register maps of a list of records, and of one record on maps that are handed in. No other part of a graph is
 // read. Of a list the links are made first: they check the records, and the maps are made of those that they accept.
-ghost use Rattle.std.specs.Prelude.{◌≡◌, ◌&&◌, ◌||◌, ◌≤◌, length};
+ghost use Rattle.std.specs.Prelude.{◌≡◌, ◌&&◌, ◌||◌, ◌+◌, ◌≤◌, length, MatchResult};
 ghost use Rattle.graph.specs.Soundness.{register_map_rule};
 ghost use Rattle.links.specs.Links.{rule_of};
 ghost use Rattle.registers.specs.Registers.{registers_of, maps_stopped, maps_kept, enter_records, register_records, register_record};
@@ -11,8 +11,9 @@ use file::{InvolvedClassical, Refusal};
 use graph::{NodeIndex, Registers};
 use links::LoadingRule;
 
-// The three answers are functions, since clauses name each by a definition of specs/. first, last and v stay apart, as
-// the graph's parts and document 01's calls have them.
+// The three answers are functions, since clauses name each by a definition of specs/. first and last stay two parameters:
+// they come as two parts of a graph and go out as two of Registered, and a struct between would be made and taken apart.
+
 // The refusal of the record after k accepted ones.
 fn maps_stopped(k: usize, r: Refusal) -> Registered
     ensures { result ≡ maps_stopped k r }
@@ -93,8 +94,36 @@ fn maps_fit(first: Registers, last: Registers, v: NodeIndex) -> bool
     graph::is_register_map(first, n) && graph::is_register_map(last, n)
 }
 
-// Record i as node v on the register maps of a graph with v nodes: 11, 4, 12, 5, 7. A refusal leaves them as they
-// were.
+// The maps of a graph with v nodes after record i as node v: 11, 4, 12, 5, 7.
+fn enter_alone(
+    i: usize,
+    first: Registers,
+    last: Registers,
+    part: &[u8],
+    v: NodeIndex,
+) -> Result<(Registers, Registers), Refusal>
+    ensures { MatchResult result
+        (λ maps. registers_of (v.0 + 1) maps.0 maps.1 ≡ register_record i first last part.now v)
+        (λ cause. maps_kept v first last cause ≡ register_record i first last part.now v) }
+{
+    if !maps_fit(first, last, v) {
+        return Err(Refusal::Unsound);
+    }
+    let r = file::parse_record(part).map_err(|c| file::at_record(i, c))?;
+    if 512 <= v.0 {
+        return Err(Refusal::TooManyNodes);
+    }
+    // Most records have no register: they copy no map.
+    if let InvolvedClassical::None = r.classical {
+        return Ok((first, last));
+    }
+    let mut new_first = RegisterMap::of(first);
+    let mut new_last = RegisterMap::of(last);
+    enter_record(part, v, &mut new_first, &mut new_last).map_err(|_| Refusal::TooManyRegisters(i))?;
+    Ok((new_first.entries, new_last.entries))
+}
+
+// Record i as node v on the register maps of a graph with v nodes. A refusal leaves them as they were.
 pub fn register_record(
     i: usize,
     first: Registers,
@@ -104,25 +133,8 @@ pub fn register_record(
 ) -> Registered
     ensures { result ≡ register_record i first last part.now v }
 {
-    if !maps_fit(first, last, v) {
-        return maps_kept(v, first, last, Refusal::Unsound);
+    match enter_alone(i, first, last, part, v) {
+        Ok((first, last)) => maps_held(usize::from(v.0) + 1, first, last),
+        Err(cause) => maps_kept(v, first, last, cause),
     }
-    let r = match file::parse_record(part) {
-        Ok(r) => r,
-        Err(c) => return maps_kept(v, first, last, file::at_record(i, c)),
-    };
-    if 512 <= v.0 {
-        return maps_kept(v, first, last, Refusal::TooManyNodes);
-    }
-    let n = usize::from(v.0) + 1;
-    // Most records have no register: they copy no map.
-    if let InvolvedClassical::None = r.classical {
-        return maps_held(n, first, last);
-    }
-    let mut new_first = RegisterMap::of(first);
-    let mut new_last = RegisterMap::of(last);
-    if let Err(NoRoom) = enter_record(part, v, &mut new_first, &mut new_last) {
-        return maps_kept(v, first, last, Refusal::TooManyRegisters(i));
-    }
-    maps_held(n, new_first.entries, new_last.entries)
 }
