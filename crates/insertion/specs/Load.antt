@@ -15,6 +15,11 @@ use Rattle.insertion.specs.Limits.{insert_as}
 abbrev pub not_loaded : Refusal → Loaded
 not_loaded r = record { answer = Err r; graph = empty }
 
+-- what a load answers with: the graph, or that
+abbrev pub loaded : Result CircuitDag Refusal → Loaded
+loaded (Ok g) = record { answer = Ok tt; graph = g }
+loaded (Err r) = not_loaded r
+
 -- the file's records with these numbers, one after the other; the refusal of a record gives its number in the file
 unfoldable pub insert_records : FarRule → List ℕ → CircuitDag → List ℕ → Loaded
 insert_records rule s g [] = record { answer = (Ok tt); graph = g }

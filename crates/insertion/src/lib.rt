@@ -21,7 +21,8 @@ pub struct Inserted {
 }
 
 // What a load answers, and the graph: a struct, and no Result, since a refused load promises the empty graph. Two
-// types, as document 01 has two calls, of which one finds a node: a parameter for that would be written at each use.
+// types, as document 01 has two calls: of one with a parameter an alias is no name in specs/, so that each definition
+// would write the parameter.
 #[derive(Clone, Copy)]
 pub struct Loaded {
     pub answer: Result<(), Refusal>,

@@ -1,11 +1,11 @@
-// "In loading, each record's part of the file goes to the insertion as it is." The links, the register maps and the nodes are each made in
-// a loop of their own, and the graph is put together once, at the end.
+// "In loading, each record's part of the file goes to the insertion as it is." The links, the register maps and the nodes
+// are each made in a loop of their own, and the graph is put together once, at the end.
 ghost use Rattle.std.specs.Prelude.{◌≡◌, true, ◌≤◌, ltb, length, Ok};
 ghost use Rattle.file.specs.Lists.{all_of};
 ghost use Rattle.file.specs.Pairs.{count_of, check_file};
 ghost use Rattle.graph.specs.Dag.{empty};
 ghost use Rattle.links.specs.Links.{rule_of};
-ghost use Rattle.insertion.specs.Load.{not_loaded, insert_records, load_by};
+ghost use Rattle.insertion.specs.Load.{loaded, insert_records, load_by};
 ghost use Rattle.insertion.specs.Load.{load as load_of};
 
 use crate::Loaded;
@@ -16,44 +16,54 @@ use graph::CircuitDag;
 use links::LoadingRule;
 
 // A refused load gives the empty graph.
-pub(crate) fn not_loaded(r: Refusal) -> Loaded
-    ensures { result ≡ not_loaded r }
-{
-    Loaded {
-        answer: Err(r),
-        graph: CircuitDag::new(),
+impl From<Result<CircuitDag, Refusal>> for Loaded {
+    ghost from_gives = { λ x r. r ≡ loaded x };
+
+    fn from(x: Result<CircuitDag, Refusal>) -> Loaded {
+        match x {
+            Ok(graph) => Loaded {
+                answer: Ok(()),
+                graph,
+            },
+            Err(r) => Loaded {
+                answer: Err(r),
+                graph: CircuitDag::new(),
+            },
+        }
     }
 }
 
-// The records with these numbers of a file that passed the check, one after the other, on the empty graph. A refusal by
-// the register maps comes before one by the links: the maps are made of the records before it.
-pub(crate) fn insert_in_order(rule: LoadingRule, file: &[u8], order: &[u16]) -> Loaded
+// The graph of the records with these numbers of a file that passed the check, one after the other. A refusal by the
+// register maps comes before one by the links: the maps are made of the records before it.
+pub(crate) fn insert_in_order(
+    rule: LoadingRule,
+    file: &[u8],
+    order: &[u16],
+) -> Result<CircuitDag, Refusal>
     requires { (check_file file.now ≡ Ok tt) × (all_of (λ i. ltb i (count_of file.now)) order.now ≡ true)
         × (length order.now ≤ 512) }
-    ensures { result ≡ insert_records (rule_of rule) file.now empty order.now }
+    ensures { loaded result ≡ insert_records (rule_of rule) file.now empty order.now }
 {
     let x = registers::register_records(rule, file, order);
-    if let Err(cause) = x.registered.answer {
-        return not_loaded(cause);
-    }
-    if let Err(cause) = x.linked.answer {
-        return not_loaded(cause);
-    }
-    Loaded {
-        answer: Ok(()),
-        graph: assemble(list_nodes(file, order), x.linked, x.registered),
-    }
+    x.registered.answer?;
+    x.linked.answer?;
+    Ok(assemble(list_nodes(file, order), x.linked, x.registered))
 }
 
-// A circuit file, or the first refusal: 2, 1, 3, then per record 4, 12, 6, 7.
+// The graph of a circuit file, or the first refusal: 2, 1, 3, then per record 4, 12, 6, 7.
+fn load_graph(rule: LoadingRule, file: &[u8]) -> Result<CircuitDag, Refusal>
+    ensures { loaded result ≡ load_by rule file.now }
+{
+    file::check_file(file)?;
+    let order = queries::in_file_order();
+    insert_in_order(rule, file, &order[..file::record_count(file)])
+}
+
+// The same, with the empty graph beside a refusal.
 pub fn load_by(rule: LoadingRule, file: &[u8]) -> Loaded
     ensures { result ≡ load_by rule file.now }
 {
-    if let Err(r) = file::check_file(file) {
-        return not_loaded(r);
-    }
-    let order = queries::in_file_order();
-    insert_in_order(rule, file, &order[..file::record_count(file)])
+    Loaded::from(load_graph(rule, file))
 }
 
 // The same by document 01's rule: document 01's call, whose clause names no rule.
