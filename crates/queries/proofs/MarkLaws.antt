@@ -17,16 +17,12 @@ use lib.Seq.{get_or-take, get_or-drop, take-suc, take-length, get_or-set_same, g
 use borrow.Author.Tests.{ltb-true, leb-true, le-leb, eqb-true, eq-eqb, ne_eqb, not-true as not-flip}
 use Rattle.file.specs.Lists.{any_of, all_of, member}
 use Rattle.graph.proofs.CheckLaws.{unmarked as replicate-false}
-use Rattle.queries.specs.Marks.{no_node, every_node, unmarked, Listed, EndsBelow, Ordered, LeadsAbove, Neighbours, Passes, Spread, Carried, in_turn, Swept, Closed}
+use Rattle.queries.specs.Reach.{Reaching}
+use Rattle.queries.specs.Marks.{no_node, unmarked, Listed, EndsBelow, Ordered, LeadsAbove, Neighbours, Passes, Spread, Carried, in_turn, Swept, Closed}
 use Rattle.file.proofs.BoolLaws.{bool_cases, clash_bool, and_l, and_r, and_intro, or_cases, or_l, or_r, or_inl, or_inr, flip-not, eqb_same, split_lt}
 use Rattle.graph.proofs.ListLaws.{any_here, any-later, any_append, all_at}
 
 -- ---- one mark more
-
-replicate-true : (n u : ℕ) → u < n → get_or (replicate n true) u false ≡ true
-replicate-true zero u h = absurd (omega arith)
-replicate-true (suc n) zero h = refl
-replicate-true (suc n) (suc u) h = replicate-true n u (omega arith)
 
 -- entry a is marked
 pub mark_set : (r : List Bool) (a u : ℕ) → a < length r → get_or (set r a true) u false ≡ (get_or r u false || eqb u a)
@@ -42,14 +38,6 @@ none_marked u = replicate-false 512 u
 pub none_long : length no_node ≡ 512
 unfolding no_node
 none_long = refl
-
--- every node but v
-pub other_marked : (v u : ℕ) → v < 512 → u < 512 → get_or (set every_node v false) u false ≡ not (eqb u v)
-unfolding every_node
-other_marked v u h l = elim (ℕ_discrete u v) [
-  | yes e ↦ rw (e, eqb_same v) (get_or-set_same (replicate 512 true) v false false h)
-  | no m ↦ rw (ne_eqb u v m) (get_or-set_other (replicate 512 true) v u false false m ∙ replicate-true 512 u l)
-]
 
 -- the node v alone
 pub only_marked : (v u : ℕ) → v < 512 → get_or (set no_node v true) u false ≡ eqb u v
@@ -117,54 +105,60 @@ module _ (list : List ℕ) where
   pub lists_with : (r : List Bool) (x : ℕ) → Listed list r → x < 512 → Listed (x ∷ list) (set r x true)
   lists_with r x L k = record { long = length-set r x true ∙ L.long; each = λ u l. mark_set r x u (omega (arith, L.long)) ∙ ap (λ (b : Bool). b || eqb u x) (L.each u l) ∙ sym (member_cons u x list) }
 
--- ---- the neighbours
+-- ---- the targets of chosen nodes
 
-module _ (skip : List Bool) (near far : List ℕ) (m : ℕ) where
-  pub record Meeting (r : List Bool) (i : ℕ) : Type 0 where
-    pub ends : EndsBelow near far m
+module _ (from to : List ℕ) (m : ℕ) (chosen : List Bool) where
+  pub record Marking (found : List Bool) (i : ℕ) : Type 0 where
+    pub ends : EndsBelow to from m
     pub low : i ≤ m
-    pub long : length r ≡ 512
-    pub met : Neighbours skip near far i r
+    pub so_far : Reaching from to i chosen found
 
-  pub meets_none : EndsBelow near far m → Meeting (replicate 512 false) 0
-  meets_none E = record {
+  pub marking_begin : EndsBelow to from m → Marking (replicate 512 false) 0
+  marking_begin E = record {
     ends = E;
     low = omega arith;
-    long = refl;
-    met = record { long = refl; hit = λ i l. absurd (omega arith); only = λ u t. absurd (clash_bool t (replicate-false 512 u)) };
+    so_far = record { long = refl; hit = λ j l. absurd (omega arith); only = λ v t. absurd (clash_bool t (replicate-false 512 v)) };
   }
 
-  pub meets_one : (r : List Bool) (i : ℕ) → Meeting r i → i < m → (a b : ℕ) → a ≡ get_or near i 0 → b ≡ get_or far i 0
-      → Meeting (set r a (get_or r a false || not (get_or skip b false))) (i + 1)
-  meets_one r i M k a b ea eb =
-      let l : a < length r = omega (arith, M.ends.near_below i k, M.long, ea) in
+  pub marking_more : {found : List Bool} {i : ℕ} → Marking found i → i < m → {f t : ℕ} → f ≡ get_or from i 0 → t ≡ get_or to i 0
+      → Marking (set found t (get_or found t false || get_or chosen f false)) (i + 1)
+  marking_more {found = found} {i = i} M k {f = f} {t = t} ef et =
+      let l : t < length found = omega (arith, M.ends.near_below i k, M.so_far.long, et) in
+      let stored = λ (v : ℕ). mark-or found t v (get_or chosen f false) l in
       record {
         ends = M.ends;
         low = omega arith;
-        long = length-set r a _ ∙ M.long;
-        met = record {
-          long = length-set r a _ ∙ M.long;
-          hit = λ j h s. mark-or r a (get_or near j 0) (not (get_or skip b false)) l ∙ ⊎_elim
-              (λ (x : j ≡ i). or_inr (get_or r (get_or near j 0) false) _ (and_intro (eqb (get_or near j 0) a) (not (get_or skip b false))
-              (eq-eqb (get_or near j 0) a (ap (λ (y : ℕ). get_or near y 0) x ∙ sym ea))
-              (flip-not (get_or skip b false) (ap (λ (y : ℕ). get_or skip y false) (eb ∙ ap (λ (y : ℕ). get_or far y 0) (sym x)) ∙ s))))
-              (λ (x : j < i). or_inl (get_or r (get_or near j 0) false) _ (M.met.hit j x s))
+        so_far = record {
+          long = length-set found t _ ∙ M.so_far.long;
+          hit = λ j h c. let v = get_or to j 0 in stored v ∙ ⊎_elim
+              (λ (x : j ≡ i). or_inr (get_or found v false) _ (and_intro (eqb v t) (get_or chosen f false)
+              (eq-eqb v t (ap (λ (y : ℕ). get_or to y 0) x ∙ sym et))
+              (ap (λ (y : ℕ). get_or chosen y false) (ef ∙ ap (λ (y : ℕ). get_or from y 0) (sym x)) ∙ c)))
+              (λ (x : j < i). or_inl (get_or found v false) _ (M.so_far.hit j x c))
               (split_lt j i h);
-          only = λ u t. ⊎_elim
-              (λ (o : get_or r u false ≡ true). let q = M.met.only u o in (q.0, omega (arith, q.1), q.2, q.3))
-              (λ (o : (eqb u a && not (get_or skip b false)) ≡ true).
-              let q : u ≡ a = eqb-true u a (and_l (eqb u a) (not (get_or skip b false)) o) in
-              (i, omega arith, sym (q ∙ ea), sym (ap (λ (y : ℕ). get_or skip y false) eb) ∙ not-flip (get_or skip b false) (and_r (eqb u a) (not (get_or skip b false)) o)))
-              (or_cases (get_or r u false) (eqb u a && not (get_or skip b false)) (sym (mark-or r a u (not (get_or skip b false)) l) ∙ t));
+          only = λ v c. ⊎_elim
+              (λ (o : get_or found v false ≡ true). let q = M.so_far.only v o in (q.0, omega (arith, q.1), q.2, q.3))
+              (λ (o : (eqb v t && get_or chosen f false) ≡ true). (
+                i,
+                omega arith,
+                sym (eqb-true v t (and_l (eqb v t) (get_or chosen f false) o) ∙ et),
+                sym (ap (λ (y : ℕ). get_or chosen y false) ef) ∙ and_r (eqb v t) (get_or chosen f false) o,
+              ))
+              (or_cases (get_or found v false) (eqb v t && get_or chosen f false) (sym (stored v) ∙ c));
         };
       }
 
-  pub meets_all : (r : List Bool) (i : ℕ) → Meeting r i → m ≤ i → Neighbours skip near far m r
-  meets_all r i M k = record {
-    long = M.long;
-    hit = λ j h. M.met.hit j (omega arith);
-    only = λ u t. let q = M.met.only u t in (q.0, omega (arith, q.1, M.low), q.2, q.3);
-  }
+  pub marking_done : {found : List Bool} {i : ℕ} → Marking found i → m ≤ i → Reaching from to m chosen found
+  marking_done {i = i} M le = let z : i ≡ m = omega (arith, M.low) in rw z at M.so_far
+
+-- where those that are not skipped are chosen
+pub reached_neighbours : (skip chosen : List Bool) (near far : List ℕ) (m : ℕ) (r : List Bool) → EndsBelow near far m
+    → ((v : ℕ) → v < 512 → get_or chosen v false ≡ not (get_or skip v false)) → Reaching far near m chosen r → Neighbours skip near far m r
+reached_neighbours skip chosen near far m r E each R = record {
+  long = R.long;
+  hit = λ i l s. R.hit i l (each (get_or far i 0) (E.far_below i l) ∙ flip-not _ s);
+  only = λ u t. let q = R.only u t in (q.0, q.1, q.2, not-flip _ (sym (each (get_or far q.0 0) (E.far_below q.0 q.1)) ∙ q.3));
+}
 
 -- ---- one pass over the edges
 

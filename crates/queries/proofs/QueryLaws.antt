@@ -11,10 +11,10 @@ use Rattle.file.specs.declared.Refusal.TheVariants.{Absent, NotInLayer, Unsound}
 use Rattle.graph.specs.declared.CircuitDag.{CircuitDag}
 use Rattle.graph.specs.Dag.{size}
 use Rattle.graph.specs.Soundness.{sound, check_sound}
-use Rattle.queries.specs.Reach.{blocking, BlockingList, predecessors_of, successors_of}
+use Rattle.queries.specs.Reach.{blocking, BlockingList, predecessors_of, successors_of, Reaching}
 use Rattle.queries.specs.Queries.{Lent, refuses, answers, on_node, check_node, execution_blocked, blocking_predecessors, successors, remove, freed, layer_after}
 use Rattle.queries.specs.Queries.{new_front_layer}
-use Rattle.queries.specs.Marks.{no_node, every_node, kept, without, layer_by, Listed, Neighbours, Closed, Waiting, FirstAt}
+use Rattle.queries.specs.Marks.{no_node, kept, without, layer_by, Listed, Closed, Waiting, FirstAt}
 use Rattle.graph.proofs.SoundnessLaws.{Sound}
 use Rattle.file.specs.declared.Refusal.{Refusal}
 use Rattle.std.specs.Prelude.{ltb, Result, Ok, Err, ⊤}
@@ -112,21 +112,21 @@ module _ (g : CircuitDag) (S : Sound g) (h : sound g ≡ true) (v : ℕ) (low : 
   blocked_answers executed C L a =
       a ∙ ap (λ (l : List ℕ). answers l b) (blocking-kept g S v low mark C executed skip L) ∙ node-answers g v b (answers (blocking g executed v) b) h low
 
-  pub predecessors_answers : (executed : List ℕ) → Neighbours (set every_node v false) g.edges.from g.edges.to g.edges.count mark → Listed executed skip
+  pub predecessors_answers : (executed : List ℕ) → Reaching g.edges.to g.edges.from g.edges.count (set no_node v true) mark → Listed executed skip
       → y ≡ answers (kept mark skip (size g)) b → y ≡ blocking_predecessors g executed v b
   unfolding blocking_predecessors
   predecessors_answers executed N L a =
       a ∙ ap (λ (l : List ℕ). answers l b) (predecessors_kept g S v low mark N executed skip L)
       ∙ node-answers g v b (answers (keep (λ w. not (member w executed)) (predecessors_of g v)) b) h low
 
-  pub successors-answers : Neighbours (set every_node v false) g.edges.to g.edges.from g.edges.count mark → skip ≡ no_node
+  pub successors-answers : Reaching g.edges.from g.edges.to g.edges.count (set no_node v true) mark → skip ≡ no_node
       → y ≡ answers (kept mark skip (size g)) b → y ≡ successors g v b
   unfolding successors
   successors-answers N s a =
       a ∙ ap (λ (l : List Bool). answers (kept mark l (size g)) b) s ∙ ap (λ (l : List ℕ). answers l b) (successors-kept g S v low mark N)
       ∙ node-answers g v b (answers (successors_of g v) b) h low
 
-  module _ (executed layer : List ℕ) (i : ℕ) (N : Neighbours (set every_node v false) g.edges.to g.edges.from g.edges.count mark) (f : FirstAt v layer i) (k : i < length layer) where
+  module _ (executed layer : List ℕ) (i : ℕ) (N : Reaching g.edges.from g.edges.to g.edges.count (set no_node v true) mark) (f : FirstAt v layer i) (k : i < length layer) where
     -- the layer's rule, once the node is found in it
     found : (l : List ℕ) → l ≡ layer_after g executed layer v → y ≡ answers l b → y ≡ new_front_layer g executed layer v b
     unfolding new_front_layer

@@ -11,18 +11,18 @@ use lib.Dec.{eqb, ltb}
 use lib.IntN.{ℤ, pos, negsuc}
 use lib.Signed.{lt_z}
 use lib.ListN.{get_or, set}
-use borrow.Author.Tests.{not-false, ltb-true, lt-ltb, eqb-true, eq-eqb, ne_eqb, not-true as not-flip}
+use borrow.Author.Tests.{ltb-true, lt-ltb, eqb-true, eq-eqb, ne_eqb, not-true as not-flip}
 use Rattle.file.specs.Lists.{any_of, all_of, keep, count_from, up_to, member, is_empty}
 use Rattle.graph.specs.declared.CircuitDag.{CircuitDag}
 use Rattle.graph.specs.Dag.{Edge, edge, edge_at, size, edges_of, has_edge, same_edge, place_of}
 use Rattle.graph.specs.Soundness.{ascends, place_within}
-use Rattle.queries.specs.Reach.{Reached, along, onward, reached_by, reached, blocking, Blocks, BlockingList, predecessors_of, successors_of}
+use Rattle.queries.specs.Reach.{Reached, along, onward, reached_by, reached, blocking, Blocks, BlockingList, predecessors_of, successors_of, Reaching}
 use Rattle.queries.specs.Queries.{freed}
-use Rattle.queries.specs.Marks.{no_node, every_node, kept, Listed, EndsBelow, Neighbours, Closed, Waiting}
+use Rattle.queries.specs.Marks.{no_node, kept, Listed, EndsBelow, Closed, Waiting}
 use Rattle.file.proofs.BoolLaws.{bool_cases, clash_bool, bool_ext, and_l, and_r, and_intro, or_cases, or_inl, or_inr, flip-not, eqb_same}
 use Rattle.graph.proofs.ListLaws.{any_here, any-later, any_at, at-any, all_here, all_at, keep-any, up_to-any, any-up_to}
 use Rattle.graph.proofs.SoundnessLaws.{Sound}
-use Rattle.queries.proofs.MarkLaws.{none_marked, other_marked, only_marked, member_cons}
+use Rattle.queries.proofs.MarkLaws.{none_marked, only_marked, member_cons}
 
 -- ---- an edge by its index
 
@@ -352,6 +352,9 @@ module _ (g : CircuitDag) (S : Sound g) where
         (λ (t : reached g (T g i) v ≡ true). onward (edge-at g i l) (reached_told g S (T g i) v t))
         (or_cases (eqb (T g i) v) (reached g (T g i) v) h)))
 
+    starts : (u : ℕ) → get_or (set no_node v true) u false ≡ eqb u v
+    starts u = only_marked v u (omega (arith, S.node-count))
+
     module _ (mark : List Bool) (C : Closed g.edges.from g.edges.to m (set no_node v true) mark) where
       marks-edge : (a b : ℕ) → has_edge g a b ≡ true → get_or mark b false ≡ true → get_or mark a false ≡ true
       marks-edge a b h t =
@@ -361,9 +364,6 @@ module _ (g : CircuitDag) (S : Sound g) where
       marks-reached : {a b : ℕ} → Reached g a b → get_or mark b false ≡ true → get_or mark a false ≡ true
       marks-reached (along e) t = marks-edge _ _ e t
       marks-reached (onward e r) t = marks-edge _ _ e (marks-reached r t)
-
-      starts : (u : ℕ) → get_or (set no_node v true) u false ≡ eqb u v
-      starts u = only_marked v u (omega (arith, S.node-count))
 
       pub ancestor_marks : (u : ℕ) → get_or mark u false ≡ (eqb u v || reached g u v)
       unfolding A
@@ -387,24 +387,20 @@ module _ (g : CircuitDag) (S : Sound g) where
           table false true false = refl
           table false false z = refl
 
-    -- the direct neighbours of v
-    apart : (u : ℕ) → u < size g → get_or (set every_node v false) u false ≡ not (eqb u v)
-    apart u l = other_marked v u (omega (arith, S.node-count)) (omega (arith, S.node-count))
-
-    -- x tells that an edge has u near and v far
-    neighbour_marks : (near far : List ℕ) → ((i : ℕ) → i < m → get_or far i 0 < size g) → (mark : List Bool) → Neighbours (set every_node v false) near far m mark → (u : ℕ) (x : Bool)
+    -- the direct neighbours of v: x tells that an edge has u near and v far
+    neighbour_marks : (near far : List ℕ) (mark : List Bool) → Reaching far near m (set no_node v true) mark → (u : ℕ) (x : Bool)
         → (x ≡ true → (i : ℕ) × (i < m) × (get_or near i 0 ≡ u) × (get_or far i 0 ≡ v)) → ((i : ℕ) → i < m → get_or near i 0 ≡ u → get_or far i 0 ≡ v → x ≡ true)
         → get_or mark u false ≡ x
-    neighbour_marks near far below mark N u x told tells = bool_ext (get_or mark u false) x
-        (λ h. let r = N.only u h in tells r.0 r.1 r.2 (eqb-true (get_or far r.0 0) v (not-false _ (sym (apart (get_or far r.0 0) (below r.0 r.1)) ∙ r.3))))
-        (λ h. let i = told h in rw i.2 at (N.hit i.0 i.1 (apart (get_or far i.0 0) (below i.0 i.1) ∙ ap not (eq-eqb (get_or far i.0 0) v i.3))))
+    neighbour_marks near far mark R u x told tells = bool_ext (get_or mark u false) x
+        (λ h. let r = R.only u h in tells r.0 r.1 r.2 (eqb-true (get_or far r.0 0) v (sym (starts (get_or far r.0 0)) ∙ r.3)))
+        (λ h. let i = told h in rw i.2 at (R.hit i.0 i.1 (starts (get_or far i.0 0) ∙ eq-eqb (get_or far i.0 0) v i.3)))
 
-    predecessor_marks : (mark : List Bool) → Neighbours (set every_node v false) g.edges.from g.edges.to m mark → (u : ℕ) → get_or mark u false ≡ has_edge g u v
-    predecessor_marks mark N u = neighbour_marks g.edges.from g.edges.to S.to_below mark N u (has_edge g u v)
+    predecessor_marks : (mark : List Bool) → Reaching g.edges.to g.edges.from m (set no_node v true) mark → (u : ℕ) → get_or mark u false ≡ has_edge g u v
+    predecessor_marks mark R u = neighbour_marks g.edges.from g.edges.to mark R u (has_edge g u v)
         (edge_index g u v) (λ i l p q. rw (p, q) at (edge-at g i l))
 
-    successor_marks : (mark : List Bool) → Neighbours (set every_node v false) g.edges.to g.edges.from m mark → (w : ℕ) → get_or mark w false ≡ has_edge g v w
-    successor_marks mark N w = neighbour_marks g.edges.to g.edges.from S.from-below mark N w (has_edge g v w)
+    successor_marks : (mark : List Bool) → Reaching g.edges.from g.edges.to m (set no_node v true) mark → (w : ℕ) → get_or mark w false ≡ has_edge g v w
+    successor_marks mark R w = neighbour_marks g.edges.to g.edges.from mark R w (has_edge g v w)
         (λ h. let i = edge_index g v w h in (i.0, i.1, i.3, i.2)) (λ i l p q. rw (p, q) at (edge-at g i l))
 
   -- the nodes that wait: marks along the edges from the ends of unexecuted nodes' edges
@@ -451,7 +447,7 @@ module _ (g : CircuitDag) (S : Sound g) where
 
   module _ (v : ℕ) (low : v < size g) (mark : List Bool) where
     -- the direct predecessors that are not executed
-    pub predecessors_kept : Neighbours (set every_node v false) g.edges.from g.edges.to m mark → (executed : List ℕ) (skip : List Bool) → Listed executed skip
+    pub predecessors_kept : Reaching g.edges.to g.edges.from m (set no_node v true) mark → (executed : List ℕ) (skip : List Bool) → Listed executed skip
         → kept mark skip (size g) ≡ keep (λ u. not (member u executed)) (predecessors_of g v)
     predecessors_kept N executed skip L =
         keep_same (λ u. get_or mark u false && not (get_or skip u false)) (λ u. has_edge g u v && not (member u executed)) (size g)
@@ -459,7 +455,7 @@ module _ (g : CircuitDag) (S : Sound g) where
         ∙ sym (keep-keep (λ u. has_edge g u v) (λ u. not (member u executed)) (up_to (size g)))
 
     -- the direct successors, and those of them that do not wait
-    pub successors-kept : Neighbours (set every_node v false) g.edges.to g.edges.from m mark → kept mark no_node (size g) ≡ successors_of g v
+    pub successors-kept : Reaching g.edges.from g.edges.to m (set no_node v true) mark → kept mark no_node (size g) ≡ successors_of g v
     successors-kept N = keep_same (λ u. get_or mark u false && not (get_or no_node u false)) (λ w. has_edge g v w) (size g)
         (λ u l. (λ t. successor_marks v low mark N u t && not (none_marked u t)) ∙ and_all (has_edge g v u))
       where
@@ -467,7 +463,7 @@ module _ (g : CircuitDag) (S : Sound g) where
         and_all true = refl
         and_all false = refl
 
-    pub freed-kept : Neighbours (set every_node v false) g.edges.to g.edges.from m mark → (executed : List ℕ) (skip bad : List Bool) → Listed (v ∷ executed) skip
+    pub freed-kept : Reaching g.edges.from g.edges.to m (set no_node v true) mark → (executed : List ℕ) (skip bad : List Bool) → Listed (v ∷ executed) skip
         → Waiting skip g.edges.to g.edges.from m bad → kept mark bad (size g) ≡ freed g executed v
     freed-kept N executed skip bad L X =
         keep_same (λ u. get_or mark u false && not (get_or bad u false)) (λ w. has_edge g v w && is_empty (blocking g (v ∷ executed) w)) (size g)

@@ -1,5 +1,5 @@
 -- Which nodes are reached from which, along the edges. Assumes nothing.
-use Rattle.std.specs.Prelude.{◌≡◌, Bool, true, false, not, ◌&&◌, List, ℕ, zero, suc, ◌<◌, eqb}
+use Rattle.std.specs.Prelude.{◌≡◌, Bool, true, false, not, ◌&&◌, List, ℕ, zero, suc, ◌<◌, eqb, length, get_or}
 use Rattle.file.specs.Lists.{any_of, keep, member, up_to}
 use Rattle.graph.specs.declared.CircuitDag.{CircuitDag}
 use Rattle.graph.specs.Dag.{Edge, size, edges_of, has_edge}
@@ -36,6 +36,12 @@ pub record BlockingList (g : CircuitDag) (executed : List ℕ) (v : ℕ) (l : Li
   pub only : (u : ℕ) → member u l ≡ true → Blocks g executed v u
   pub all : (u : ℕ) → Blocks g executed v u → member u l ≡ true
   pub ascending : ascends l ≡ true
+
+-- of the first m edges the targets of those that start at a chosen node, as marks
+pub record Reaching (from to : List ℕ) (m : ℕ) (chosen found : List Bool) : Type 0 where
+  pub long : length found ≡ 512
+  pub hit : (j : ℕ) → j < m → get_or chosen (get_or from j 0) false ≡ true → get_or found (get_or to j 0) false ≡ true
+  pub only : (v : ℕ) → get_or found v false ≡ true → (j : ℕ) × (j < m) × (get_or to j 0 ≡ v) × (get_or chosen (get_or from j 0) false ≡ true)
 
 -- "direct neighbours, ascending"
 abbrev pub predecessors_of : CircuitDag → ℕ → List ℕ

@@ -15,6 +15,7 @@ pub struct Arcs<'a> {
 
 impl<'a> Arcs<'a> {
     ghost use Rattle.std.specs.Prelude.{◌≡◌, ◌<◌, get_or};
+    ghost use Rattle.queries.specs.Reach.{Reaching};
 
     // The arcs that lead as a graph's edges do.
     pub(crate) fn along(g: &'a CircuitDag) -> Arcs<'a>
@@ -61,5 +62,17 @@ impl<'a> Arcs<'a> {
         ensures low { result < 512 }
     {
         usize::from(self.far[i])
+    }
+
+    // The near ends of the arcs whose far end is chosen. Like the other passes it goes over indices: two arrays cut to
+    // the count and zipped would say no more, and a pass down needs the index.
+    pub fn reached(&self, chosen: &[bool; 512]) -> [bool; 512]
+        ensures { Reaching self.now.far.now self.now.near.now self.now.count chosen.now result }
+    {
+        let mut found = [false; 512];
+        for i in 0..self.count {
+            found[self.near_end(i)] |= chosen[self.far_end(i)];
+        }
+        found
     }
 }

@@ -3,8 +3,9 @@
 ghost use Rattle.std.specs.Prelude.{◌≡◌, true, false, not, ◌≤◌, ◌<◌, length, take, set, IfSome, IfNone};
 ghost use Rattle.std.specs.List.Sorted.{IsNonDecreasing};
 ghost use Rattle.file.specs.Lists.{members};
-ghost use Rattle.queries.specs.Marks.{no_node, every_node, Listed, Ordered, LeadsAbove, Neighbours};
+ghost use Rattle.queries.specs.Marks.{no_node, Listed, Ordered, LeadsAbove};
 ghost use Rattle.queries.specs.Marks.{Carried, in_turn, Swept, Closed, Waiting, FirstAt};
+ghost use Rattle.queries.specs.Reach.{Reaching};
 ghost use Rattle.queries.specs.Queries.{answers, execution_blocked, blocking_predecessors, successors as successors_rule, new_front_layer};
 
 use crate::Arcs;
@@ -12,6 +13,7 @@ use crate::kept::Kept;
 use crate::node::{Node, check_node};
 use file::Refusal;
 use graph::{CircuitDag, NodeIndex, no_marks};
+use std::array;
 
 // The nodes that stand in a list; its numbers from 512 on are no nodes.
 fn listed(list: &[u16]) -> [bool; 512]
@@ -26,24 +28,12 @@ fn listed(list: &[u16]) -> [bool; 512]
     r
 }
 
-// The near ends of the arcs whose far end is not skipped. Like the passes below it goes over indices: two arrays cut to
-// the count and zipped would say no more, and a pass down needs the index.
-fn neighbours(skip: &[bool; 512], arcs: &Arcs) -> [bool; 512]
-    ensures { Neighbours skip.now arcs.now.near.now arcs.now.far.now arcs.now.count result }
-{
-    let mut r = [false; 512];
-    for i in 0..arcs.count {
-        r[arcs.near_end(i)] |= !skip[arcs.far_end(i)];
-    }
-    r
-}
-
 // The near ends of the arcs whose far end is v.
-#[tactic(auto, unfolding(crate::specs::Marks::every_node))]
+#[tactic(auto, unfolding(crate::specs::Marks::no_node))]
 fn neighbours_of(v: Node, arcs: &Arcs) -> [bool; 512]
-    ensures { Neighbours (set every_node v.v.0 false) arcs.now.near.now arcs.now.far.now arcs.now.count result }
+    ensures { Reaching arcs.now.far.now arcs.now.near.now arcs.now.count (set no_node v.v.0 true) result }
 {
-    neighbours(&v.marked([true; 512], false), arcs)
+    arcs.reached(&v.marked([false; 512], true))
 }
 
 // A marked far end marks the near end, with no branch. Did the mark come new?
@@ -177,7 +167,7 @@ fn ancestors(arcs: &Arcs, v: Node) -> [bool; 512]
 fn waiting(skip: &[bool; 512], arcs: &Arcs) -> [bool; 512]
     ensures { Waiting skip.now arcs.now.near.now arcs.now.far.now arcs.now.count result }
 {
-    let mut mark = neighbours(skip, arcs);
+    let mut mark = arcs.reached(&array::from_fn(|v| !skip[v]));
     spread(&mut mark, arcs, true);
     mark
 }

@@ -8,18 +8,18 @@ use native.Mathlib.Omega.{arith}
 use native.Mathlib.Nat.{zero-add}
 use native.Mathlib.Decide.{dec_lt, ℕ_discrete}
 use lib.Dec.{eqb}
-use lib.ListN.{length, get_or, set, replicate, length-set, length-replicate, get_or-eq_default}
+use lib.ListN.{length, get_or, set, length-set, get_or-eq_default}
 use lib.Seq.{get_or-set_same, get_or-set_other, ext_get_or}
 use borrow.Author.Tests.{eq-eqb, ne_eqb}
 use Rattle.file.specs.Lists.{any_of, keep, cons_if, is_empty, member, members, marked_from, count_from}
 use Rattle.graph.specs.declared.CircuitDag.{CircuitDag}
 use Rattle.graph.specs.Dag.{size, has_edge}
 use Rattle.graph.specs.Soundness.{sound}
-use Rattle.queries.specs.Reach.{blocking}
+use Rattle.queries.specs.Reach.{blocking, Reaching}
 use Rattle.file.proofs.BoolLaws.{bool_cases, clash_bool, bool_ext, not-true, not-false, and_l, and_r, and_intro, or_cases, or_inl, or_inr, flip-not, split_lt}
 use Rattle.graph.proofs.ListLaws.{members-any, any-members, member_marked}
 use Rattle.walk.specs.Blocks.{joined, marks}
-use Rattle.walk.specs.Numbering.{at, Joined, Above, Rises, Settled, Begun, Reaching, Freed, free_after}
+use Rattle.walk.specs.Numbering.{at, Joined, Above, Rises, Settled, Begun, Freed, free_after}
 use Rattle.walk.proofs.Bounds.{and-any, any-and}
 use Rattle.walk.proofs.BlockSteps.{edge-at, at_edge, marks-length, marks-at, joined_at, joined_length}
 use Rattle.walk.proofs.BlockLaws.{W, rank, upward}
@@ -47,67 +47,6 @@ pub joins : (a b all : List Bool) → length a ≡ 512 → length b ≡ 512 → 
 joins a b all one other long each =
     ext_get_or false all (joined a b) (long ∙ sym (joined_length a b (one ∙ sym other) ∙ other))
     (λ v l. each v (omega (arith, long)) ∙ sym (joined_at a b v))
-
--- ---- the targets of chosen nodes
-
-module _ (from to : List ℕ) (m : ℕ) (chosen : List Bool) where
-  pub record Marking (found : List Bool) (i : ℕ) : Type 0 where
-    pub joins : Joined from to m
-    pub low : i ≤ m
-    pub so_far : Reaching from to i chosen found
-
-  pub marking_begin : (found : List Bool) → Joined from to m → found ≡ replicate 512 false → Marking found 0
-  marking_begin found J e = record {
-    joins = J;
-    low = omega arith;
-    so_far = record {
-      long = ap length e ∙ length-replicate {A = Bool} 512 false;
-      hit = λ j l. absurd (omega arith);
-      only = λ v h. absurd (clash_bool h (ap (λ (l : List Bool). get_or l v false) e ∙ blank 512 v));
-    };
-  }
-    where
-      blank : (k v : ℕ) → get_or (replicate k false) v false ≡ false
-      blank zero v = refl
-      blank (suc k) zero = refl
-      blank (suc k) (suc v) = blank k v
-
-  module _ {found : List Bool} {i : ℕ} (I : Marking found i) (h : i < m) where
-    abbrev mark : Bool
-    mark = get_or found (at to i) false || get_or chosen (at from i) false
-
-    inside : at to i < length found
-    inside = omega (arith, I.joins.to_low i h, I.so_far.long)
-
-    marked_on : Marking (set found (at to i) mark) (i + 1)
-    marked_on = record {
-      joins = I.joins;
-      low = omega arith;
-      so_far = record {
-        long = length-set found (at to i) mark ∙ I.so_far.long;
-        hit = λ j l c. ⊎_elim
-            (λ (q : j ≡ i). ap (λ (x : ℕ). get_or (set found (at to i) mark) (at to x) false) q ∙ get_or-set_same found (at to i) mark false inside
-            ∙ or_inr (get_or found (at to i) false) _ (sym (ap (λ (x : ℕ). get_or chosen (at from x) false) q) ∙ c))
-            (λ (q : j < i). ⊎_elim
-            (λ (p : (at to j ≡ at to i) × (get_or (set found (at to i) mark) (at to j) false ≡ mark)). p.1 ∙ or_inl _ _ (sym (ap (λ (x : ℕ). get_or found x false) p.0) ∙ I.so_far.hit j q c))
-            (λ (p : get_or (set found (at to i) mark) (at to j) false ≡ get_or found (at to j) false). p ∙ I.so_far.hit j q c)
-            (mark-stored found (at to i) mark (at to j) inside))
-            (split_lt j i l);
-        only = λ v c. ⊎_elim
-            (λ (p : (v ≡ at to i) × (get_or (set found (at to i) mark) v false ≡ mark)). ⊎_elim
-            (λ (x : get_or found (at to i) false ≡ true). let r = I.so_far.only (at to i) x in (r.0, omega (arith, r.1), r.2 ∙ sym p.0, r.3))
-            (λ (x : get_or chosen (at from i) false ≡ true). (i, omega arith, sym p.0, x))
-            (or_cases (get_or found (at to i) false) (get_or chosen (at from i) false) (sym p.1 ∙ c)))
-            (λ (p : get_or (set found (at to i) mark) v false ≡ get_or found v false). let r = I.so_far.only v (sym p ∙ c) in (r.0, omega (arith, r.1), r.2, r.3))
-            (mark-stored found (at to i) mark v inside);
-      };
-    }
-
-    pub marking_more : (f t : ℕ) (x : Bool) → f ≡ at from i → t ≡ at to i → x ≡ (get_or found t false || get_or chosen f false) → Marking (set found t x) (i + 1)
-    marking_more f t x ef et ex = rw (ex, et, ef) marked_on
-
-  pub marking_done : {found : List Bool} {i : ℕ} → Marking found i → m ≤ i → Reaching from to m chosen found
-  marking_done {i = i} I le = let z : i ≡ m = omega (arith, I.low) in rw z at I.so_far
 
 -- ---- the nodes that wait taken away
 

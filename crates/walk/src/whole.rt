@@ -6,7 +6,7 @@ ghost use Rattle.graph.specs.Dag.{size};
 ghost use Rattle.graph.specs.Soundness.{sound};
 ghost use Rattle.queries.specs.Marks.{in_turn, EndsBelow};
 ghost use Rattle.walk.specs.Blocks.{whole_walk, blocks, number_from, joined, start, next};
-ghost use Rattle.walk.specs.Numbering.{at, following, Swept, Settled, Begun, Zeroed, Counted, Reaching, Freed, free_after};
+ghost use Rattle.walk.specs.Numbering.{at, following, Swept, Settled, Begun, Zeroed, Counted, Freed, free_after};
 
 use crate::ParallelBlocks;
 use file::Refusal;
@@ -145,17 +145,6 @@ fn join_marks(a: &[bool; 512], b: &[bool; 512]) -> [bool; 512]
     array::from_fn(|v| a[v] | b[v])
 }
 
-// The nodes with an edge from a chosen one.
-fn targets_of(arcs: &Arcs, chosen: &[bool; 512]) -> [bool; 512]
-    ensures { Reaching arcs.now.far.now arcs.now.near.now arcs.now.count chosen.now result }
-{
-    let mut found = [false; 512];
-    for i in 0..arcs.count {
-        found[usize::from(arcs.near[i])] |= chosen[usize::from(arcs.far[i])];
-    }
-    found
-}
-
 // Takes away the nodes that wait: those with an edge from one with 65535, as in the lent buffer, which C reads.
 fn take_waiting(arcs: &Arcs, num: &[u16; 512], found: &mut [bool; 512])
     ensures { Freed arcs.now.far.now arcs.now.near.now arcs.now.count num.now found.old found.new }
@@ -178,7 +167,7 @@ fn find_block(g: CircuitDag, current: &[bool; 512], all: &[bool; 512], started: 
     let arcs = along(&g);
     let mut num = first_numbers(all);
     settle(&arcs, g.nodes.count, g.fronts == 0, &mut num);
-    let mut found = targets_of(&arcs, current);
+    let mut found = arcs.reached(current);
     take_waiting(&arcs, &num, &mut found);
     found
 }

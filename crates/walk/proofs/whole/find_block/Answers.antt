@@ -11,4 +11,4 @@ pub returns : goal.returns
 returns c =
     let a = c.along-arcs.ensures in
     rw c.if-not-started.false (followers-found c.args.g c.requires _ _ _ c.first_numbers-num.ensures (rw (a.far, a.near, a.count) at c.settle.ensures)
-    _ _ _ (rw (a.far, a.near, a.count) at c.targets_of-found.ensures) (rw (a.far, a.near, a.count) at c.take_waiting.ensures))
+    _ _ _ (rw (a.far, a.near, a.count) at c.reached-found.ensures) (rw (a.far, a.near, a.count) at c.take_waiting.ensures))
