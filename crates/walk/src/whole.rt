@@ -145,7 +145,8 @@ fn join_marks(a: &[bool; 512], b: &[bool; 512]) -> [bool; 512]
     array::from_fn(|v| a[v] | b[v])
 }
 
-// Takes away the nodes that wait: those with an edge from one with 65535, as in the lent buffer, which C reads.
+// Takes away the nodes that wait: those with an edge from one with 65535. No Option stands for it: these numbers come from
+// the same passes (`settle`) as those that go to the lent buffer.
 fn take_waiting(arcs: &Arcs, num: &[u16; 512], found: &mut [bool; 512])
     ensures { Freed arcs.now.far.now arcs.now.near.now arcs.now.count num.now found.old found.new }
 {
