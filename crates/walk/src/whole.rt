@@ -155,16 +155,11 @@ fn take_waiting(arcs: &Arcs, num: &[u16; 512], found: &mut [bool; 512])
     }
 }
 
-// The first block before a walk has started; afterwards the successors of the current nodes that are blocked by none.
-// By `started` and no second function: the caller would choose by the same `if`, and would copy the first block
-// besides.
-fn find_block(g: CircuitDag, current: &[bool; 512], all: &[bool; 512], started: bool) -> [bool; 512]
+// The successors of the current nodes that are blocked by none.
+fn free_block(g: CircuitDag, current: &[bool; 512], all: &[bool; 512]) -> [bool; 512]
     requires { sound g ≡ true }
-    ensures { members result ≡ cond started (free_after g current.now all.now) (members g.first.block) }
+    ensures { members result ≡ free_after g current.now all.now }
 {
-    if !started {
-        return g.first.block;
-    }
     let arcs = along(&g);
     let mut num = first_numbers(all);
     settle(&arcs, g.nodes.count, g.fronts == 0, &mut num);
@@ -196,7 +191,11 @@ impl ParallelBlocks {
         }
         let started = graph::has_member(self.current) | graph::has_member(self.executed);
         let all = join_marks(&self.current, &self.executed);
-        let found = find_block(g, &self.current, &all, started);
+        let found = if started {
+            free_block(g, &self.current, &all)
+        } else {
+            g.first.block
+        };
         let k = answer_marked(found, buffer)?;
         *self = ParallelBlocks {
             current: found,
