@@ -16,11 +16,13 @@ use Rattle.file.specs.declared.Refusal.TheVariants.{ShortBuffer}
 use Rattle.queries.specs.Queries.{Lent, refuses, answers, remove}
 use Rattle.queries.specs.Marks.{kept, without, layer_by, FirstAt}
 use Rattle.file.proofs.BoolLaws.{bool_cases, clash_bool, split_lt}
-use Rattle.file.proofs.PutLaws.{put-none, put-put, length-put, put_one, put-onto}
+use Rattle.file.proofs.PutLaws.{put-none, put-put, put_one, put-onto}
 use Rattle.graph.proofs.ListLaws.{at-any, at_none}
 use Rattle.graph.proofs.CheckLaws.{unmarked}
 use Rattle.std.specs.Prelude.{Ok, filter}
-use Rattle.std.specs.List.{range_with_len}
+use Rattle.std.specs.List.{range_with_len, enumerate_from}
+use Rattle.std.proofs.lemmas.List.{take_more}
+use Rattle.std.proofs.lemmas.List.FromFn.{length-enumerate_from, get_or-enumerate_from}
 
 -- ---- the entries that pass
 
@@ -51,17 +53,6 @@ module _ (p : ℕ → Bool) where
   pub keep_no : (u : ℕ) → p u ≡ false → keep p (up_to (u + 1)) ≡ keep p (up_to u)
   unfolding keep
   keep_no u e = rw (up_to-suc u, keep_append p (up_to u) (u ∷ [])) (ap (λ (l : List ℕ). keep p (up_to u) ++ l) (ap (λ (b : Bool). cons_if b u []) e) ∙ append-nil (keep p (up_to u)))
-
-  keep_grows : (u : ℕ) → length (keep p (up_to u)) ≤ length (keep p (up_to (u + 1)))
-  keep_grows u = ⊎_elim
-      (λ (t : p u ≡ true). rw (keep_yes u t) (omega (arith, length-append (keep p (up_to u)) (u ∷ []))))
-      (λ (t : p u ≡ false). rw (keep_no u t) (omega arith))
-      (bool_cases (p u))
-
-  -- no more are kept of fewer
-  pub keep_fewer : (d u : ℕ) → length (keep p (up_to u)) ≤ length (keep p (up_to (u + d)))
-  keep_fewer zero u = let z : u + 0 ≡ u = omega arith in rw z (omega arith)
-  keep_fewer (suc d) u = let z : u + suc d ≡ (u + d) + 1 = omega arith in rw z (omega (arith, keep_fewer d u, keep_grows (u + d)))
 
   keep-zero : length (keep p (up_to 0)) ≡ 0
   unfolding keep count_from
@@ -123,59 +114,47 @@ kept-filter p (suc n) k = ⊎_elim
 pub kept_filtered : (mark skip : List Bool) (n : ℕ) → filter (λ u. get_or mark u false && not (get_or skip u false)) (range_with_len 0 n) ≡ kept mark skip n
 kept_filtered mark skip n = kept-filter (λ u. get_or mark u false && not (get_or skip u false)) n 0
 
-module _ (mark skip : List Bool) (n : ℕ) where
-  abbrev P : ℕ → Bool
-  P u = get_or mark u false && not (get_or skip u false)
+-- a list written entry by entry: its entries come numbered
+module _ (l b₀ : List ℕ) where
+  -- as many as came are written
+  abbrev pub Filled : List (ℕ × ℕ) → List ℕ → Type 0
+  Filled xs b = b ≡ put_at 0 (take (length xs) l) b₀
 
-  -- the kept nodes below u are written
-  module _ (b₀ : List ℕ) where
-    pub record Writing (b : List ℕ) (k u : ℕ) : Type 0 where
-      pub fits : n ≤ 512
-      pub room : length (kept mark skip n) ≤ length b₀
-      pub low : u ≤ n
-      pub count : k ≡ length (kept mark skip u)
-      pub put : b ≡ put_at 0 (kept mark skip u) b₀
+  pub filled-none : Filled [] b₀
+  filled-none = sym (put-none 0 b₀)
 
-    pub writes-none : n ≤ 512 → length (kept mark skip n) ≤ length b₀ → Writing b₀ 0 0
-    unfolding keep count_from
-    writes-none f r = record { fits = f; room = r; low = omega arith; count = omega arith; put = sym (put-none 0 b₀) }
+  module _ (xs : List (ℕ × ℕ)) where
+    pub filled_all : (b : List ℕ) → Filled xs b → length xs ≡ length (enumerate_from 0 l) → b ≡ onto l b₀
+    filled_all b w e = w ∙ ap (λ (x : List ℕ). put_at 0 x b₀) (ap (λ (n : ℕ). take n l) (e ∙ length-enumerate_from 0 l) ∙ take-length l) ∙ put-onto l b₀
 
-    module _ (b : List ℕ) (k u : ℕ) (W : Writing b k u) (h : u < n) (x : Bool) (e : x ≡ P u) where
-      writes_low : x ≡ true → length (kept mark skip u) < length b₀
-      writes_low t =
-          let z : u + 1 + (n - (u + 1)) ≡ n = omega arith in
-          let f : length (kept mark skip (u + 1)) ≤ length (kept mark skip n) = rw z at (keep_fewer P (n - (u + 1)) (u + 1)) in
-          omega (arith, f, W.room, ap length (keep_yes P u (sym e ∙ t)), length-append (keep P (up_to u)) (u ∷ []))
+    -- entry u comes with the number k
+    abbrev pub Comes : ℕ → ℕ → Type 0
+    Comes k u = (length xs < length (enumerate_from 0 l)) × ◌≡◌ {A = ℕ × ℕ} (k, u) (get_or (enumerate_from 0 l) (length xs) (k, u))
 
-      pub writes_room : x ≡ true → k < length b
-      writes_room t = omega (arith, W.count, ap length W.put, length-put 0 (kept mark skip u) b₀ (omega (arith, writes_low t)), writes_low t)
+    module _ (k u : ℕ) (t : Comes k u) where
+      within : length xs < length l
+      within = omega (arith, t.0, length-enumerate_from 0 l)
 
-      pub writes_one : x ≡ true → (b' : List ℕ) (k' : ℕ) → b' ≡ set b k u → k' ≡ k + 1 → Writing b' k' (u + 1)
-      writes_one t b' k' s q = let here : k ≡ 0 + length (kept mark skip u) = omega (arith, W.count) in record {
-        fits = W.fits;
-        room = W.room;
-        low = omega arith;
-        count = omega (arith, q, W.count, ap length (keep_yes P u (sym e ∙ t)), length-append (keep P (up_to u)) (u ∷ []));
-        put = s ∙ (λ i. set (W.put i) (here i) u) ∙ put_one 0 u (kept mark skip u) b₀ (omega (arith, writes_low t)) ∙ ap (λ (l : List ℕ). put_at 0 l b₀) (sym (keep_yes P u (sym e ∙ t)));
-      }
+      numbered : ◌≡◌ {A = ℕ × ℕ} (k, u) (0 + length xs, get_or l (length xs) u)
+      numbered = t.1 ∙ get_or-enumerate_from 0 l (length xs) (k, u) within
 
-      pub writes-not : x ≡ false → (b' : List ℕ) (k' : ℕ) → b' ≡ b → k' ≡ k → Writing b' k' (u + 1)
-      writes-not t b' k' s q = record {
-        fits = W.fits;
-        room = W.room;
-        low = omega arith;
-        count = omega (arith, q, W.count, ap length (keep_no P u (sym e ∙ t)));
-        put = s ∙ W.put ∙ ap (λ (l : List ℕ). put_at 0 l b₀) (sym (keep_no P u (sym e ∙ t)));
-      }
+      entry : u ≡ get_or l (length xs) u
+      entry = ap (λ (p : ℕ × ℕ). p.1) numbered
 
-    pub writes_long : (b : List ℕ) (k u : ℕ) → Writing b k u → length b ≡ length b₀
-    writes_long b k u W =
-        let z : u + (n - u) ≡ n = omega (arith, W.low) in
-        let f : length (kept mark skip u) ≤ length (kept mark skip n) = rw z at (keep_fewer P (n - u) u) in
-        ap length W.put ∙ length-put 0 (kept mark skip u) b₀ (omega (arith, f, W.room))
+      pub filled_room : k < length l
+      filled_room = omega (arith, within, ap (λ (p : ℕ × ℕ). p.0) numbered)
 
-    pub writes_all : (b : List ℕ) (k u : ℕ) → Writing b k u → n ≤ u → b ≡ onto (kept mark skip n) b₀
-    writes_all b k u W h = let z : u ≡ n = omega (arith, W.low) in W.put ∙ ap (λ (x : ℕ). put_at 0 (kept mark skip x) b₀) z ∙ put-onto (kept mark skip n) b₀
+      pub filled_member : member u l ≡ true
+      filled_member = at-any (eqb u) l u (length xs) within (eq-eqb u (get_or l (length xs) u) entry)
+
+      pub filled_one : length l ≤ length b₀ → (b : List ℕ) → Filled xs b → Filled (xs ++ ((k, u) ∷ [])) (set b k u)
+      filled_one room b w =
+          let part = take (length xs) l in
+          let long : length part ≡ length xs = length-take-le (length xs) l (omega (arith, within)) in
+          let here : k ≡ 0 + length part = omega (arith, long, ap (λ (p : ℕ × ℕ). p.0) numbered) in
+          let more : part ++ (u ∷ []) ≡ take (length (xs ++ ((k, u) ∷ []))) l = ap (λ (x : ℕ). part ++ (x ∷ [])) entry ∙ sym (take_more l (length xs) u within)
+          ∙ ap (λ (n : ℕ). take n l) (sym (length-append xs ((k, u) ∷ []))) in
+          (λ i. set (w i) (here i) u) ∙ put_one 0 u part b₀ (omega (arith, long, within, room)) ∙ ap (λ (y : List ℕ). put_at 0 y b₀) more
 
 -- v stands at no index up to i
 pub not_yet : (v i : ℕ) (l : List ℕ) → ((j : ℕ) → j < i → eqb v (get_or l j 0) ≡ false) → (get_or l i 0 ≡ v → ⊥) → (j : ℕ) → j < i + 1 → eqb v (get_or l j 0) ≡ false

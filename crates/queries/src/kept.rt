@@ -32,19 +32,14 @@ impl Kept<'_> {
         (0..self.n).filter(|u| self.has(*u)).count()
     }
 
-    // They go over the buffer's first entries. A loop that counts the index: tried as a zip of `iter_mut` with a
-    // filter, and the proof did not close, as it is not known which slots were written through a zip with a filter.
+    // They go over the buffer's first entries.
     fn write(&self, buffer: &mut [u16])
         requires { length (kept self.now.mark.now self.now.skip.now self.now.n) ≤ length buffer.old }
         ensures { buffer.new ≡ onto (kept self.now.mark.now self.now.skip.now self.now.n) buffer.old }
     {
-        let mut k: usize = 0;
-        for u in 0..self.n {
-            if self.has(u) {
-                // No loss: u is below 512.
-                buffer[k] = u as u16;
-                k += 1;
-            }
+        for (k, u) in (0..self.n).filter(|u| self.has(*u)).enumerate() {
+            // No loss: u is below 512.
+            buffer[k] = u as u16;
         }
     }
 
