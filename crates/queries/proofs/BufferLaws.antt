@@ -15,7 +15,7 @@ use Rattle.file.specs.Lists.{keep, cons_if, count_from, up_to, member, marked_fr
 use Rattle.file.specs.declared.Refusal.TheVariants.{ShortBuffer}
 use Rattle.queries.specs.Queries.{Lent, refuses, answers, remove}
 use Rattle.queries.specs.Marks.{kept, without, layer_by, FirstAt}
-use Rattle.file.proofs.BoolLaws.{bool_cases, clash_bool, split_lt}
+use Rattle.file.proofs.BoolLaws.{bool_cases, clash_bool}
 use Rattle.file.proofs.PutLaws.{put-none, put-put, put_one, put-onto}
 use Rattle.graph.proofs.ListLaws.{at-any, at_none}
 use Rattle.graph.proofs.CheckLaws.{unmarked}
@@ -155,13 +155,6 @@ module _ (l b₀ : List ℕ) where
           let more : part ++ (u ∷ []) ≡ take (length (xs ++ ((k, u) ∷ []))) l = ap (λ (x : ℕ). part ++ (x ∷ [])) entry ∙ sym (take_more l (length xs) u within)
           ∙ ap (λ (n : ℕ). take n l) (sym (length-append xs ((k, u) ∷ []))) in
           (λ i. set (w i) (here i) u) ∙ put_one 0 u part b₀ (omega (arith, long, within, room)) ∙ ap (λ (y : List ℕ). put_at 0 y b₀) more
-
--- v stands at no index up to i
-pub not_yet : (v i : ℕ) (l : List ℕ) → ((j : ℕ) → j < i → eqb v (get_or l j 0) ≡ false) → (get_or l i 0 ≡ v → ⊥) → (j : ℕ) → j < i + 1 → eqb v (get_or l j 0) ≡ false
-not_yet v i l f n j h = ⊎_elim
-    (λ (e : j ≡ i). ne_eqb v (get_or l j 0) (λ x. n (ap (λ (k : ℕ). get_or l k 0) (sym e) ∙ sym x)))
-    (λ (e : j < i). f j e)
-    (split_lt j i h)
 
 -- ---- the layer
 
