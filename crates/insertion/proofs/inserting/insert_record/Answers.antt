@@ -1,13 +1,10 @@
-use mathlib.Core.Path.{◌≡◌, sym, ap, ◌∙◌}
-use mathlib.Core.Bool.{true}
+use mathlib.Core.Path.{◌≡◌, sym, ◌∙◌}
 use native.Mathlib.Omega.{arith}
 use Rattle.std.proofs.Common.{rules, tests}
 use Rattle.std.proofs.lemmas.Result.{err_from_is_err_and}
 use Rattle.file.specs.Refusals.{at_record}
 use Rattle.file.proofs.RecordLaws.{parsed_good, not_parsed}
-use Rattle.graph.specs.Soundness.{sound}
 use Rattle.graph.proofs.SizeLaws.{dag_sized}
-use Rattle.links.specs.Links.{rule_of}
 use Rattle.links.proofs.ResultLaws.{mapped_ok, mapped_err}
 use Rattle.queries.proofs.QueryLaws.{sound_ok}
 use Rattle.insertion.proofs.CaseLaws.{itself, cause_refuses}
