@@ -41,11 +41,12 @@ pub struct Place {
     pub length: usize,
 }
 
-// A record's part of the file, and where it stands.
+// A record's part of the file, with where it stands or why it is refused. No Result of both: where the place is refused
+// the part is promised too, and is empty.
 #[derive(Clone, Copy)]
 pub struct RecordPart<'a> {
     pub bytes: &'a [u8],
-    pub place: Place,
+    pub place: Result<Place, Refusal>,
 }
 
 // The qubits that a record involves (the source's InvolvedQubits); bit q of the mask is qubit q.

@@ -1,5 +1,5 @@
 // "Circuit file": the header, the pairs, and a record's part of the file.
-ghost use Rattle.std.specs.Prelude.{◌≡◌, ◌+◌, ◌*◌, ◌≤◌, ◌<◌, length, get_or, Ok, Err, IfOk, MatchResult};
+ghost use Rattle.std.specs.Prelude.{◌≡◌, ◌+◌, ◌*◌, ◌≤◌, ◌<◌, length, get_or, IfOk};
 ghost use Rattle.file.specs.Pairs.{number_at, count_of, offset_of, length_of, header, check_file, locate_record, pair_place, Part};
 
 use crate::{Place, RecordPart, Refusal};
@@ -128,13 +128,14 @@ pub fn part_of(file: &[u8], i: usize) -> &[u8]
     part_at(file, locate_pair(file, i))
 }
 
-// Record i as it stands in the file, with where it stands, or why it is refused.
-pub fn read_record<'a>(file: &'a [u8], i: usize) -> Result<RecordPart<'a>, Refusal>
-    ensures { MatchResult result
-        (λ part. (locate_record file.now i ≡ Ok part.place) × Part file.entry part.bytes (locate_record file.now i))
-        (λ cause. locate_record file.now i ≡ Err cause) }
+// Record i as it stands in the file, with where it stands or why it is refused.
+pub fn read_record<'a>(file: &'a [u8], i: usize) -> RecordPart<'a>
+    ensures { Part file.entry result.bytes (locate_record file.now i)
+        × (result.place ≡ locate_record file.now i) }
 {
-    let place = locate_record(file, i)?;
-    let bytes = part_at(file, Ok(place));
-    Ok(RecordPart { bytes, place })
+    let place = locate_record(file, i);
+    RecordPart {
+        bytes: part_at(file, place),
+        place,
+    }
 }

@@ -26,10 +26,7 @@ const SLACK: [u8; 72] = [
 
 // Record i's bytes, by the record reader; none where it refuses.
 fn read_bytes(file: &[u8], i: usize) -> &[u8] {
-    match file::read_record(file, i) {
-        Ok(part) => part.bytes,
-        Err(_) => &file[..0],
-    }
+    file::read_record(file, i).bytes
 }
 
 // The first refusal in checking a file and parsing its records in order.
