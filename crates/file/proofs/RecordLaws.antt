@@ -3,7 +3,7 @@ use mathlib.Core.Path.{◌≡◌, refl, sym, ap}
 use mathlib.Core.Bool.{Bool, true, false, cond, not, ◌&&◌}
 use mathlib.Core.List.{List, []}
 use mathlib.Core.Logic.{⊎_elim}
-use Prim.Native.Nat.{ℕ, suc, ◌+◌, ◌*◌, ◌-◌, ◌<◌, ◌≤◌}
+use Prim.Native.Nat.{ℕ, zero, suc, ◌+◌, ◌*◌, ◌-◌, ◌<◌, ◌≤◌}
 use native.Mathlib.Omega.{arith}
 use lib.Dec.{leb, eqb}
 use lib.ListN.{length, get_or, get_or-eq_default}
@@ -23,6 +23,7 @@ use Rattle.file.specs.declared.InvolvedClassical.{InvolvedClassical}
 use Rattle.file.specs.declared.InvolvedClassical.TheVariants.{None, All, AllQubits, Set, Definition}
 use Rattle.file.specs.Pairs.{stands_at}
 use Rattle.std.specs.Prelude.{Result, Ok, Err}
+use Rattle.std.specs.List.{list_all, range_with_len}
 
 -- ---- What a record that keeps its rule has
 
@@ -232,19 +233,14 @@ register_kept s e = ⊎_elim
     (bool_cases (eqb (Records.register_form s) 1)))
     (bool_cases (eqb (Records.register_form s) 0))
 
--- ---- One turn of `is_ascending`
+-- ---- The answer of `is_ascending`: what `all` answers over the numbers of the later entries
 
-module _ (s : List ℕ) (c k : ℕ) where
-  pub ascend_turn : (b : Bool) → 1 ≤ k → k < c → b ≡ Records.entry_before s (k - 1) → Records.ascend_from (c - k) (k - 1) s ≡ (b && Records.ascend_from (c - (k + 1)) (k + 1 - 1) s)
-  unfolding Records.ascend_from
-  ascend_turn b low l e =
-      let z : c - k ≡ suc (c - (k + 1)) = omega arith in
-      let y : k - 1 + 1 ≡ k + 1 - 1 = omega arith in
-      rw (z, e, y) refl
-
-  pub ascend_end : c ≤ k → Records.ascend_from (c - k) (k - 1) s ≡ true
-  unfolding Records.ascend_from
-  ascend_end l = let z : c - k ≡ 0 = omega arith in rw z refl
+pub all_ascend : (m k : ℕ) (s : List ℕ) → list_all (λ i. Records.entry_before s (i - 1)) (range_with_len (k + 1) m) ≡ Records.ascend_from m k s
+unfolding Records.ascend_from
+all_ascend zero k s = refl
+all_ascend (suc m) k s =
+    let z : k + 1 - 1 ≡ k = omega arith in
+    rw z (ap (λ b. Records.entry_before s k && b) (all_ascend m (k + 1) s))
 
 -- ---- The answers of `is_set`, `register_key` and `parse_record`
 

@@ -61,18 +61,12 @@ fn entry_before(s: &[u8], k: usize) -> bool
     this < next
 }
 
-// The entries come in this order. A loop: of `all` over the numbers a lemma would have to say what the recursion of
-// ascend_from says.
+// The entries come in this order.
 fn is_ascending(s: &[u8], c: usize) -> bool
     requires { (c < 256) × (15 + 3 * c ≤ length s.now) }
     ensures { result ≡ ascend_from (c - 1) 0 s.now }
 {
-    for k in 1..c {
-        if !entry_before(s, k - 1) {
-            return false;
-        }
-    }
-    true
+    (1..c).all(|k| entry_before(s, k - 1))
 }
 
 // A tail with a count byte and its entries.

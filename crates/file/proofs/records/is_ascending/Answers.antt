@@ -1,17 +1,11 @@
-use Rattle.std.proofs.Common.{refl, sym, ◌∙◌, true, false, arith}
-use Rattle.file.proofs.RecordLaws.{ascend_turn, ascend_end}
+use Rattle.std.proofs.Common.{◌∙◌, ℕ, ◌-◌, rules, tests}
+use Rattle.std.proofs.lemmas.Iterator.{YieldsList-from_range}
+use Rattle.std.proofs.lemmas.Iterator.Search.{all_from_yields_List}
+use Rattle.file.specs.Records.{entry_before}
+use Rattle.file.proofs.RecordLaws.{all_ascend}
 use Rattle.file.proofs.records.is_ascending.Goals as goal
 
-pub loop-k-init : goal.loop-k-init
-loop-k-init c = (omega arith, refl)
-
-pub loop-k-preserved : goal.loop-k-preserved
-loop-k-preserved c =
-    (omega arith, sym (ascend_turn _ _ _ true c.loop-k.invariant.0 c.loop-k-test.true (sym c.if-not-entry_before.false ∙ c.entry_before.ensures)) ∙ c.loop-k.invariant.1)
-
-pub returns-then-not-entry_before : goal.returns-then-not-entry_before
-returns-then-not-entry_before c =
-    sym (ascend_turn _ _ _ false c.loop-k.invariant.0 c.loop-k-test.true (sym c.if-not-entry_before.true ∙ c.entry_before.ensures)) ∙ c.loop-k.invariant.1
-
 pub returns : goal.returns
-returns c = sym (ascend_end _ _ _ c.loop-k-test.false) ∙ c.loop-k.invariant.1
+returns c =
+    all_from_yields_List (λ (k : ℕ). entry_before c.args.s.now (k - 1)) _ _ _ c.all.ensures.ran (YieldsList-from_range 1 c.args.c (c.args.c - 1) (search rules) (search rules)) (λ x b q k. search (rules, tests))
+    ∙ all_ascend (c.args.c - 1) 0 c.args.s.now
