@@ -68,8 +68,8 @@ pub enum InvolvedClassical {
     Definition(u8, u16),
 }
 
-// A key of a register map.
-#[derive(Clone, Copy, Debug, PartialEq, Eq)]
+// A key of a register map. Keys come by name, then index.
+#[derive(Clone, Copy, Debug, PartialEq, Eq, PartialOrd, Ord)]
 pub struct RegisterKey {
     pub name: u8,
     pub index: u16,

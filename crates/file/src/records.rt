@@ -4,7 +4,7 @@ ghost use Rattle.file.specs.Pairs.{number_at};
 ghost use Rattle.file.specs.Records.{definition_rule, qubit_rule, entry_before, ascend_from, set_rule, tail_rule, parse_record, qubits_by, classical_of};
 ghost use Rattle.file.specs.Records.{key_at, front, label, form_of, register_form_of};
 
-use crate::pairs::{byte_at, field_at, read_u16};
+use crate::pairs::{byte_at, field_at};
 use crate::{InvolvedClassical, InvolvedQubits, Record, Refusal, RegisterKey};
 
 // The longest register list.
@@ -53,17 +53,15 @@ fn is_empty_set(form: u8, mask: u64) -> bool
 // Entry k comes before the next one: by name, then index.
 #[tactic(auto, unfolding(crate::specs::Records::entry_before))]
 fn entry_before(s: &[u8], k: usize) -> bool
-    requires { (k < 256) × (15 + 3 * (k + 2) ≤ length s.now) }
+    requires { k < 256 }
     ensures { result ≡ entry_before s.now k }
 {
-    let this = (s[15 + 3 * k], read_u16(s, 16 + 3 * k));
-    let next = (s[15 + 3 * (k + 1)], read_u16(s, 16 + 3 * (k + 1)));
-    this < next
+    register_key(s, k) < register_key(s, k + 1)
 }
 
 // The entries come in this order.
 fn is_ascending(s: &[u8], c: usize) -> bool
-    requires { (c < 256) × (15 + 3 * c ≤ length s.now) }
+    requires { c < 256 }
     ensures { result ≡ ascend_from (c - 1) 0 s.now }
 {
     (1..c).all(|k| entry_before(s, k - 1))
