@@ -23,7 +23,8 @@ use Rattle.graph.specs.declared.CircuitDag.{CircuitDag}
 use Rattle.graph.specs.declared.Edges.{Edges}
 use Rattle.graph.specs.declared.Nodes.{Nodes}
 use Rattle.graph.specs.declared.Registers.{Registers}
-use Rattle.graph.specs.Checks.{operation_in, within, slot, slot_answer, places_fit, edges_in, edge_fits, operates, low_edge, key_number, is_repeated}
+use Rattle.file.specs.declared.RegisterKey.{RegisterKey}
+use Rattle.graph.specs.Checks.{operation_in, within, slot, slot_answer, places_fit, edges_in, edge_fits, operates, low_edge, key_in, is_repeated}
 use Rattle.graph.specs.Dag.{Edge, Entry, edge, edge_at, entry_at, same_edge, same_key}
 use Rattle.graph.specs.Soundness.{same_place, ascends, keys_distinct}
 use Rattle.file.proofs.BoolLaws.{bool_cases, clash_bool, not-true, bool_ext, and_l, and_r, and_intro, or_cases}
@@ -406,10 +407,50 @@ module _ {r : Registers} {cells : List Bool} {i : ℕ} (I : KeysApart r cells i)
         clash_bool (and_intro (get_or cells c false) (is_repeated r i) d t) s));
   }
 
--- keys whose numbers ascend are distinct
-pub ascend_distinct : (r : Registers) → ascends (map (key_number r) (up_to r.count)) ≡ true → keys_distinct r ≡ true
-ascend_distinct r h = up_to-distinct same_key (entry_at r) r.count (λ i j a k. not-true (λ e.
-    let n = key_number r in
+-- keys that ascend, by name, then index, are distinct
+
+abbrev pub key_before : RegisterKey → RegisterKey → Bool
+key_before a b = ltb a.name b.name || (eqb a.name b.name && ltb a.index b.index)
+
+record Before (a b : RegisterKey) : Type 0 where
+  names : a.name ≤ b.name
+  indices : a.name ≡ b.name → a.index < b.index
+
+before_told : (a b : RegisterKey) → key_before a b ≡ true → Before a b
+before_told a b h = ⊎_elim
+    (λ (t : ltb a.name b.name ≡ true). let l = ltb-true a.name b.name t in record { names = omega arith; indices = λ e. absurd (omega arith) })
+    (λ (t : (eqb a.name b.name && ltb a.index b.index) ≡ true).
+    let e = eqb-true a.name b.name (and_l (eqb a.name b.name) (ltb a.index b.index) t) in
+    let l = ltb-true a.index b.index (and_r (eqb a.name b.name) (ltb a.index b.index) t) in
+    record { names = omega arith; indices = λ _. l })
+    (or_cases (ltb a.name b.name) (eqb a.name b.name && ltb a.index b.index) h)
+
+before_both : (a b c : RegisterKey) → Before a b → Before b c → Before a c
+before_both a b c x y = record {
+  names = omega (arith, x.names, y.names);
+  indices = λ e. let p : a.name ≡ b.name = omega (arith, x.names, y.names) in let q : b.name ≡ c.name = omega (arith, x.names, y.names) in omega (arith, x.indices p, y.indices q);
+}
+
+abbrev keys_of : Registers → List RegisterKey
+keys_of r = map (key_in r) (up_to r.count)
+
+pub keys_rise : (r : Registers) → ((i : ℕ) (d : RegisterKey) → i + 1 < length (keys_of r) → key_before (get_or (keys_of r) i d) (get_or (keys_of r) (i + 1) d) ≡ true)
+    → keys_distinct r ≡ true
+keys_rise r h = up_to-distinct same_key (entry_at r) r.count (λ i j a k. not-true (λ e.
     let p = key_parts r i j e in
-    let o = ascends_told (map n (up_to r.count)) h i j a (omega (arith, length-up_to n r.count)) in
-    absurd (omega (arith, p.0, p.1, o, up_to-at n r.count i 0 (omega arith), up_to-at n r.count j 0 k))))
+    let b = rises i (j - suc i) j (omega arith) k in
+    absurd (omega (arith, b.indices p.0, p.1))))
+  where
+    next : (i : ℕ) → i + 1 < r.count → Before (key_in r i) (key_in r (i + 1))
+    next i k =
+        let d = key_in r 0 in
+        let x = up_to-at (key_in r) r.count i d (omega arith) in
+        let y = up_to-at (key_in r) r.count (i + 1) d k in
+        before_told (key_in r i) (key_in r (i + 1)) (rw (x, y) at (h i d (omega (arith, length-up_to (key_in r) r.count))))
+
+    rises : (i d j : ℕ) → j ≡ suc i + d → j < r.count → Before (key_in r i) (key_in r j)
+    rises i zero j e k = let z : j ≡ i + 1 = omega arith in rw z (next i (omega arith))
+    rises i (suc d) j e k =
+        let z : j ≡ (suc i + d) + 1 = omega arith in
+        let m = suc i + d in
+        rw z (before_both (key_in r i) (key_in r m) (key_in r (m + 1)) (rises i d m refl (omega arith)) (next m (omega arith)))

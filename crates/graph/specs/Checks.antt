@@ -1,7 +1,8 @@
 -- What the checks of a graph's parts answer, which together are `sound`. Assumes nothing.
-use Rattle.std.specs.Prelude.{Bool, false, not, cond, ◌&&◌, ◌||◌, List, map, ℕ, ◌+◌, ◌*◌, ◌<◌, ltb, eqb, ℤ, pos, get_or, take, Option, Some, None}
+use Rattle.std.specs.Prelude.{Bool, false, not, cond, ◌&&◌, ◌||◌, List, map, ℕ, ◌+◌, ◌<◌, ltb, eqb, ℤ, pos, get_or, take, Option, Some, None}
 use Rattle.std.specs.Int.Signed.{mag, non_neg, lt_z}
 use Rattle.file.specs.Lists.{all_of, any_of, distinct, up_to, members}
+use Rattle.file.specs.declared.RegisterKey.{RegisterKey}
 use Rattle.graph.specs.declared.Nodes.{Nodes}
 use Rattle.graph.specs.declared.Edges.{Edges}
 use Rattle.graph.specs.declared.End.{End}
@@ -66,9 +67,9 @@ end_fits x e = if_present (operates x) e.all.0 && all_of (if_present (operates x
 abbrev pub commuting_fits : ℕ → Commuting → Bool
 commuting_fits n c = ascends (take c.count c.list) && all_of (λ (v : ℕ). ltb v n) (take c.count c.list)
 
--- the key of entry i of a map, as one number
-abbrev pub key_number : Registers → ℕ → ℕ
-key_number r i = get_or r.name i 0 * 65536 + get_or r.index i 0
+-- the key of entry i of a map
+abbrev pub key_in : Registers → ℕ → RegisterKey
+key_in r i = record { name = get_or r.name i 0; index = get_or r.index i 0 }
 
 -- the key of entry i stands before it
 abbrev pub is_repeated : Registers → ℕ → Bool

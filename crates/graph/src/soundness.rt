@@ -4,10 +4,11 @@ ghost use Rattle.std.specs.Prelude.{◌≡◌, true, false, cond, ◌&&◌, ◌|
 ghost use Rattle.file.specs.Lists.{all_of, members};
 ghost use Rattle.graph.specs.Dag.{edge, size};
 ghost use Rattle.graph.specs.Soundness.{if_present, ascends, keys_distinct, counts_fit, ends_add_up, register_map_rule, sound};
-ghost use Rattle.graph.specs.Checks.{operation_in, operates, slot_answer, places_fit, edge_fits, edges_fit, edges_differ, low_edge, end_fits, commuting_fits, key_number, is_repeated, entries_fit, parts_fit};
+ghost use Rattle.graph.specs.Checks.{operation_in, operates, slot_answer, places_fit, edge_fits, edges_fit, edges_differ, low_edge, end_fits, commuting_fits, key_in, is_repeated, entries_fit, parts_fit};
 
 use crate::sets::members_below;
 use crate::{CircuitDag, Commuting, Edges, End, Registers};
+use file::RegisterKey;
 use std::array;
 
 // The counts are within the limits, and the ends add up to the nodes.
@@ -254,12 +255,15 @@ impl<'a> Entries<'a> {
         all_below(&self.map.node[..self.map.count], n) && (self.keys_ascend() || self.keys_differ())
     }
 
-    // The key of entry i as one number, its name before its index.
-    fn key(&self, i: usize) -> u32
+    // The key of entry i.
+    fn key(&self, i: usize) -> RegisterKey
         requires { i < 256 }
-        ensures { (result ≡ key_number self.now.map.now i) × (result < 16777216) }
+        ensures { result ≡ key_in self.now.map.now i }
     {
-        u32::from(self.map.name[i]) * 65536 + u32::from(self.map.index[i])
+        RegisterKey {
+            name: self.map.name[i],
+            index: self.map.index[i],
+        }
     }
 
     // The keys ascend, as definitions in the order of their names leave them, and so are distinct: no table is needed.
@@ -277,8 +281,8 @@ impl<'a> Entries<'a> {
         requires { i < 256 }
         ensures { result ≡ is_repeated self.now.map.now i }
     {
-        let (name, index) = (self.map.name[i], self.map.index[i]);
-        (0..i).any(|j| self.map.name[j] == name && self.map.index[j] == index)
+        let key = self.key(i);
+        (0..i).any(|j| self.key(j) == key)
     }
 
     // The keys are distinct, whatever their order, by a table of cells: names that differ modulo 8, with indices below
