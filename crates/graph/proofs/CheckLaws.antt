@@ -17,6 +17,7 @@ use Rattle.std.proofs.lemmas.List.{get_or-drop, get_or-take, length-drop}
 use lib.Seq.{get_or-set_same, get_or-set_other}
 use mir.Syntax.{w16}
 use mir.Val.{to_z, of_z}
+use mir.ValLaws.{to_z-of_z}
 use borrow.Author.Tests.{ltb-true, lt-ltb, eqb-true, eq-eqb, not-true as not-flip}
 use Rattle.file.specs.Lists.{any_of, all_of, distinct, up_to, members}
 use Rattle.graph.specs.declared.CircuitDag.{CircuitDag}
@@ -32,7 +33,6 @@ use Rattle.file.proofs.BoolLaws.{flip-not, split_lt}
 use Rattle.graph.proofs.BitLaws.{mark_at, MarkedBits, bits_more, no_bits}
 use Rattle.graph.proofs.ListLaws.{at-any, any_at, at_all, all_at, up_to_all, all_up_to, up_to-distinct, distinct-up_to, all_none, all_grows, distinct_none, distinct_grows, distinct_broken}
 use Rattle.graph.proofs.ListLaws.{up_to-any, any-up_to, up_to-at, length-up_to, members_all, all_members}
-use Rattle.graph.proofs.PlaceLaws.{place_read}
 use Rattle.graph.proofs.SoundnessLaws.{same_told, told_same, ascends_told, told_ascends, all_taken, taken_all}
 
 -- ---- marks: the cells f 0 to f (i - 1) are marked, and no other
@@ -100,7 +100,7 @@ places_begin g h = record {
 pub slot_read : (g : CircuitDag) (v : ℕ) (r : Option ℕ) → v < g.nodes.count → mag (get_or (take g.nodes.count g.nodes.place) v (pos 0)) < 32768
     → r ≡ slot_answer g.backs g.fronts (to_z w16 (of_z w16 (get_or (take g.nodes.count g.nodes.place) v (pos 0))))
     → r ≡ slot_answer g.backs g.fronts (place_at g v)
-slot_read g v r k h e = e ∙ ap (slot_answer g.backs g.fronts) (place_read _ h ∙ get_or-take g.nodes.count g.nodes.place v (pos 0) k)
+slot_read g v r k h e = e ∙ ap (slot_answer g.backs g.fronts) (to_z-of_z w16 _ (record { sfits = h }) ∙ get_or-take g.nodes.count g.nodes.place v (pos 0) k)
 
 -- what a slot's answer says
 pub slot_some : (b : Bool) (x s : ℕ) → cond b (Some x) None ≡ Some s → (b ≡ true) × (s ≡ x)

@@ -24,18 +24,17 @@ fn counts_fit(g: &CircuitDag) -> bool
         && g.nodes.count - g.backs == g.fronts
 }
 
-// The place's number among those within the ends: back places from 0 up, then front places from -1 down. The casts are of
-// numbers that fit by the sign: try_from would add a case that never comes.
+// The place's number among those within the ends: back places from 0 up, then front places from -1 down.
 fn slot_of(place: i16, backs: usize, fronts: usize) -> Option<usize>
     requires { backs + fronts ≤ 512 }
     ensures { result ≡ slot_answer backs fronts place }
 {
-    if place < 0 {
-        let k = (!place) as usize;
-        (k < fronts).then_some(backs + k)
-    } else {
-        let k = place as usize;
-        (k < backs).then_some(k)
+    match usize::try_from(place) {
+        Ok(k) => (k < backs).then_some(k),
+        Err(_) => {
+            let k = usize::from((!place).unsigned_abs());
+            (k < fronts).then_some(backs + k)
+        }
     }
 }
 
