@@ -22,7 +22,8 @@ use Rattle.file.specs.declared.InvolvedQubits.{InvolvedQubits}
 use Rattle.file.specs.declared.InvolvedClassical.{InvolvedClassical}
 use Rattle.file.specs.declared.InvolvedClassical.TheVariants.{None, All, AllQubits, Set, Definition}
 use Rattle.file.specs.Pairs.{stands_at}
-use Rattle.std.specs.Prelude.{Result, Ok, Err}
+use Rattle.std.specs.Prelude.{Result, Ok, Err, Some, None as NoneThere}
+use Rattle.std.specs.Option.{ok_or}
 use Rattle.std.specs.List.{list_all, range_with_len}
 
 -- ---- What a record that keeps its rule has
@@ -243,6 +244,22 @@ all_ascend (suc m) k s =
     rw z (ap (λ b. Records.entry_before s k && b) (all_ascend m (k + 1) s))
 
 -- ---- The answers of `is_set`, `register_key` and `parse_record`
+
+-- which way a test went, by what came of it
+module _ (b : Bool) (x : InvolvedQubits) where
+  pub form_out : (c e : Refusal) → ok_or (cond b (Some x) NoneThere) c ≡ Err e → (b ≡ false) × (e ≡ c)
+  form_out c e h = out b h
+    where
+      out : (b : Bool) → ok_or (cond b (Some x) NoneThere) c ≡ Err e → (b ≡ false) × (e ≡ c)
+      out true h = let z : ◌≡◌ {A = ℕ} 0 1 = cc in absurd (omega arith)
+      out false h = (refl, cc)
+
+  pub form_in : (y : InvolvedQubits) → cond b (Some x) NoneThere ≡ Some y → (b ≡ true) × (y ≡ x)
+  form_in y h = there b h
+    where
+      there : (b : Bool) → cond b (Some x) NoneThere ≡ Some y → (b ≡ true) × (y ≡ x)
+      there true h = (refl, cc)
+      there false h = let z : ◌≡◌ {A = ℕ} 0 1 = cc in absurd (omega arith)
 
 module _ (s : List ℕ) where
   -- an entry that begins past the end

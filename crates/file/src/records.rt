@@ -1,5 +1,5 @@
 // "A record": its rule in the document's order, and what it says.
-ghost use Rattle.std.specs.Prelude.{◌≡◌, true, ◌&&◌, ◌+◌, ◌*◌, ◌-◌, ◌<◌, ◌≤◌, eqb, leb, length};
+ghost use Rattle.std.specs.Prelude.{◌≡◌, true, cond, ◌&&◌, ◌+◌, ◌*◌, ◌-◌, ◌<◌, ◌≤◌, eqb, leb, length, Some, None};
 ghost use Rattle.file.specs.Pairs.{number_at};
 ghost use Rattle.file.specs.Records.{definition_rule, qubit_rule, entry_before, ascend_from, set_rule, tail_rule, parse_record, qubits_by, classical_of};
 ghost use Rattle.file.specs.Records.{key_at, front, label, form_of, register_form_of};
@@ -31,15 +31,16 @@ fn kind_fits(kind: u8, qubits: u8, register: u8) -> bool
     }
 }
 
-// The qubit form, and what it asks of the mask.
-#[tactic(auto, unfolding(crate::specs::Records::qubit_rule))]
-fn qubits_fit(form: u8, mask: u64) -> bool
-    ensures { result ≡ qubit_rule form mask }
+// What a record of this qubit form and mask involves, where the form fits the mask.
+#[tactic(auto, unfolding(crate::specs::Records::qubit_rule, crate::specs::Records::qubits_by))]
+fn involved_qubits(form: u8, mask: u64) -> Option<InvolvedQubits>
+    ensures { result ≡ cond (qubit_rule form mask) (Some (qubits_by form mask)) None }
 {
-    match form {
-        0 | 1 => mask == 0,
-        2 => true,
-        _ => false,
+    match (form, mask) {
+        (0, 0) => Some(InvolvedQubits::None),
+        (1, 0) => Some(InvolvedQubits::All),
+        (2, _) => Some(InvolvedQubits::Set(mask)),
+        _ => None,
     }
 }
 
@@ -92,18 +93,6 @@ fn tail_fits(s: &[u8]) -> bool
     }
 }
 
-// The qubits of a record whose form fits its mask.
-#[tactic(auto, unfolding(crate::specs::Records::qubits_by))]
-fn involved_qubits(form: u8, mask: u64) -> InvolvedQubits
-    ensures { result ≡ qubits_by form mask }
-{
-    match form {
-        0 => InvolvedQubits::None,
-        1 => InvolvedQubits::All,
-        _ => InvolvedQubits::Set(mask),
-    }
-}
-
 // The registers that a record involves, of any bytes: a byte past the end counts as 0.
 #[tactic(auto, unfolding(crate::specs::Records::classical_of))]
 pub fn involved_classical(part: &[u8]) -> InvolvedClassical
@@ -135,14 +124,11 @@ pub fn parse_record(part: &[u8]) -> Result<Record, Refusal>
         return Err(Refusal::BadRecord(0));
     }
     let mask = read_mask(part);
-    if !qubits_fit(form, mask) {
-        return Err(Refusal::BadRecord(0));
-    }
+    let qubits = involved_qubits(form, mask).ok_or(Refusal::BadRecord(0))?;
     if !tail_fits(part) {
         return Err(Refusal::BadRecord(0));
     }
     let label = field_at(part, 12);
-    let qubits = involved_qubits(form, mask);
     let classical = involved_classical(part);
     // Behind the fields: behind six tests the compiler would take the calls above for rare and not inline them.
     if is_empty_set(form, mask) {
