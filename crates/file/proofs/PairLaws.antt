@@ -1,13 +1,15 @@
 -- The header and the pairs: which byte lists are accepted, where each part lies, and the turns of the loop that checks them. Assumes nothing.
 use mathlib.Core.Path.{◌≡◌, refl, sym, ◌∙◌, ap}
 use mathlib.Core.Bool.{Bool, true, false, cond}
-use mathlib.Core.List.{List, []}
+use mathlib.Core.List.{List, [], ◌++◌}
 use Prim.Native.Nat.{ℕ, zero, suc, ◌+◌, ◌*◌, ◌-◌, ◌<◌, ◌≤◌}
 use native.Mathlib.Omega.{arith}
 use native.Mathlib.Numerals.{add-one}
 use native.Mathlib.Decide.{ℕ_discrete}
 use lib.Dec.{ltb, leb}
-use lib.ListN.{length, take, drop, length-take, length-drop, get_or-eq_default}
+use lib.ListN.{length, take, drop, length-take, length-drop, length-append, get_or, get_or-eq_default}
+use lib.Seq.{get_or-take, get_or-drop}
+use Rattle.std.proofs.lemmas.List.{get_or_append_left, get_or-append-add}
 use borrow.Author.Tests.{leb-true, le-leb, lt-leb, ltb-true, ltb-false, lt-ltb, le-ltb}
 use Rattle.file.specs.Pairs.{number_at, offset_of, length_of, count_of, check_pairs, header, after_header, check_file, place_from, locate_record, pair_place, record_at}
 use Rattle.file.specs.Tight.{OwnParts}
@@ -299,6 +301,56 @@ module _ (s : List ℕ) (n end k : ℕ) (i : Inv s n end k) (done : n ≤ k) (lo
   pub wrong : length s < end → Err (BadPair (n - 1)) ≡ check_file s
   unfolding check_pairs
   wrong e = rw (← stop, lt-leb _ _ e) refl
+
+-- the pairs that are left of the table, from pair k on
+pub record PairsLeft (s rest : List ℕ) (n k : ℕ) : Type 0 where
+  pub low : k ≤ n
+  pub long : length rest ≡ 4 * (n - k)
+  pub read : (j : ℕ) → j < 4 * (n - k) → get_or rest j 0 ≡ get_or s (2 + 4 * k + j) 0
+
+pub all_left : (s : List ℕ) (n : ℕ) → 2 + 4 * n ≤ length s → PairsLeft s (take (2 + 4 * n - 2) (drop 2 s)) n 0
+all_left s n h = record {
+  low = omega arith;
+  long = simp (length-take, length-drop) (omega arith);
+  read = λ j l. get_or-take (2 + 4 * n - 2) (drop 2 s) j 0 (omega arith) ∙ get_or-drop 2 s j 0;
+}
+
+pub none_left : (s rest : List ℕ) (n k : ℕ) → PairsLeft s rest n k → length rest < 4 → n ≤ k
+none_left s rest n k left h = omega (arith, left.long)
+
+-- .. one of them, and the others
+module _ (s rest : List ℕ) (n k : ℕ) (left : PairsLeft s rest n k) (pair others : List ℕ) (parts : rest ≡ pair ++ others) (four : length pair ≡ 4) where
+  lengths : length rest ≡ 4 + length others
+  lengths = ap length parts ∙ length-append pair others ∙ ap (λ m. m + length others) four
+
+  pub one_left : k < n
+  one_left = omega (arith, lengths, left.long)
+
+  byte : (j : ℕ) → j < 4 → get_or pair j 0 ≡ get_or s (2 + 4 * k + j) 0
+  byte j l = sym (get_or_append_left pair others 0 j (omega arith)) ∙ ap (λ x. get_or x j 0) (sym parts) ∙ left.read j (omega (arith, one_left))
+
+  pub pair_offset : (o : ℕ) → Field pair 0 o → Field s (2 + 4 * k) o
+  unfolding number_at
+  pair_offset o f =
+      let a : 2 + 4 * k + 0 ≡ 2 + 4 * k = omega arith in
+      (f.0 ∙ rw (byte 0 (omega arith), byte 1 (omega arith), a) refl, f.1)
+
+  pub pair_length : (l : ℕ) → Field pair 2 l → Field s (4 + 4 * k) l
+  unfolding number_at
+  pair_length l f =
+      let a : 2 + 4 * k + 2 ≡ 4 + 4 * k = omega arith in
+      let b : 2 + 4 * k + 3 ≡ 4 + 4 * k + 1 = omega arith in
+      (f.0 ∙ rw (byte 2 (omega arith), byte 3 (omega arith), a, b) refl, f.1)
+
+  pub fewer_left : PairsLeft s others n (k + 1)
+  fewer_left = record {
+    low = omega (arith, one_left);
+    long = omega (arith, lengths, left.long, one_left);
+    read = λ j l.
+        let z : 4 + j ≡ length pair + j = omega arith in
+        let y : 2 + 4 * k + (4 + j) ≡ 2 + 4 * (k + 1) + j = omega arith in
+        sym (get_or-append-add pair others j 0) ∙ (λ t. get_or (sym parts t) (sym z t) 0) ∙ left.read (4 + j) (omega (arith, one_left)) ∙ ap (λ i. get_or s i 0) y;
+  }
 
 -- ---- The answers of `locate_pair` and `part_at`
 

@@ -58,18 +58,18 @@ fn check_header(file: &[u8]) -> Result<usize, Refusal>
 }
 
 // The header and the pairs, in the document's order: 2 once two bytes are there, then 1, then 3. `end` is where the
-// table, or the part before pair k, ends; there may be slack behind it. By the pair's number, which the refusal names.
+// table, or the part before pair k, ends; there may be slack behind it. With the pair's number, which the refusal names.
 pub fn check_file(file: &[u8]) -> Result<(), Refusal>
     ensures { result ≡ check_file file.now }
 {
     let n = check_header(file)?;
     let mut end = 2 + 4 * n;
-    for k in 0..n {
-        let offset = read_u16(file, 2 + 4 * k);
+    for (k, pair) in file[2..end].chunks_exact(4).enumerate() {
+        let offset = read_u16(pair, 0);
         if offset < end {
             return Err(Refusal::BadPair(k));
         }
-        end = offset + read_u16(file, 4 + 4 * k);
+        end = offset + read_u16(pair, 2);
     }
     if file.len() < end {
         return Err(Refusal::BadPair(n.saturating_sub(1)));
