@@ -72,12 +72,23 @@ impl RegisterMap {
         }
     }
 
-    // Whether the key stands at position p. The index first: keys share names more than indices, so it tells them apart sooner.
+    // The key at position p.
+    fn key(&self, p: usize) -> RegisterKey
+        requires { p < 256 }
+        ensures { StandsAt self.now.entries result p }
+    {
+        RegisterKey {
+            name: self.entries.name[p],
+            index: self.entries.index[p],
+        }
+    }
+
+    // Whether the key stands at position p.
     fn stands_at(&self, p: usize, key: RegisterKey) -> bool
         requires { p < 256 }
         ensures { IsTrue result ↔ StandsAt self.now.entries key p }
     {
-        self.entries.index[p] == key.index && self.entries.name[p] == key.name
+        self.key(p) == key
     }
 
     // The key's position.
