@@ -229,7 +229,7 @@ fn commuting_fits(c: &Commuting, n: usize) -> bool
 fn ascends(list: &[u16]) -> bool
     ensures { result ≡ ascends list.now }
 {
-    list.is_sorted_by(|a, b| *a < *b)
+    list.is_sorted_by(|a, b| a < b)
 }
 
 // The numbers of a list are below n, without a branch on an entry.
@@ -272,7 +272,7 @@ impl<'a> Entries<'a> {
     {
         (0..self.map.count)
             .map(|i| self.key(i))
-            .is_sorted_by(|a, b| *a < *b)
+            .is_sorted_by(|a, b| a < b)
     }
 
     // The key of entry i stands before it.
@@ -292,8 +292,8 @@ impl<'a> Entries<'a> {
     {
         let mut cells = [false; 2048];
         for i in 0..self.map.count {
-            let cell = (usize::from(self.map.name[i]) * 256 + usize::from(self.map.index[i]))
-                % 2048;
+            let key = self.key(i);
+            let cell = (usize::from(key.name) * 256 + usize::from(key.index)) % 2048;
             if cells[cell] && self.is_repeated(i) {
                 return false;
             }

@@ -11,7 +11,7 @@ returns-then-is_repeated c = key_taken c.loop-i.invariant c.loop-i-test.true (sy
 
 pub loop-i-preserved : goal.loop-i-preserved
 loop-i-preserved c =
-    key_new c.loop-i.invariant _ (rw (c.from.ensures, c.from-in-loop-i.ensures) refl) (elim c.else-cells-cell.branch [
+    key_new c.loop-i.invariant _ (rw (c.from.ensures, c.from-in-loop-i.ensures, c.key-key.ensures) refl) (elim c.else-cells-cell.branch [
       | else-cells-cell-via-then-cells-cell+else-is_repeated w ↦ rw (w.if-cells-cell.true, ← w.is_repeated.ensures) w.if-is_repeated.false
       | else-cells-cell-via-else-cells-cell w ↦ rw w.if-cells-cell.false refl
     ])
