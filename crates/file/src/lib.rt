@@ -76,8 +76,8 @@ pub struct RegisterKey {
 }
 
 // What a record says. The kind is a byte and no enum: a handed-in graph and C hold kinds 6 to 255 too, so that an enum
-// would become the number again at each use. front is byte 0, a bool here and wherever it is handed on: an enum would
-// be tested by the same `if`.
+// would become the number again where a node is made. front is byte 0, a bool here and wherever it is handed on: an enum
+// would be tested by the same `if`.
 #[derive(Clone, Copy, Debug, PartialEq, Eq)]
 pub struct Record {
     pub front: bool,

@@ -141,7 +141,8 @@ impl<'a> Operations<'a> {
     // Every edge fits and no two are the same, for edges of which those with one older end and direction come in the
     // order of their newer ends, as insertion leaves them: a cell's stamp is the newer end of its last edge, plus 1.
     // One pass with 2 KB of stamps; where it says no, the two slower ones of all_edges_fit decide. By the edge's
-    // number, in all loops over edges: a zip of the two columns would name the count twice and say no more.
+    // number, in all loops over edges: the definitions speak of edge i, and of the items of a zip of the two columns each
+    // loop would have to show that they are its ends.
     fn edges_ascend(&self) -> bool
         ensures { result ≡ true → (edges_fit self.now.g.now && edges_differ self.now.g.now.edges) ≡ true }
     {
@@ -286,7 +287,7 @@ impl<'a> Entries<'a> {
 
     // The keys are distinct, whatever their order, by a table of cells: names that differ modulo 8, with indices below
     // 256, have cells of their own. Behind a free cell the key is new; behind a taken one the keys before it decide.
-    // Crate registers counts cells so too: each cell is private to a table of its own.
+    // Crate registers counts cells so too: for one line in each, one call for both would be a public one of crate file.
     fn keys_differ(&self) -> bool
         ensures { result ≡ keys_distinct self.now.map.now }
     {

@@ -64,8 +64,9 @@ impl<'a> Arcs<'a> {
         usize::from(self.far[i])
     }
 
-    // The near ends of the arcs whose far end is chosen. Like the other passes it goes over indices: two arrays cut to
-    // the count and zipped would say no more, and a pass down needs the index.
+    // The near ends of the arcs whose far end is chosen. By the arc's number, like all passes over arcs: near_end and
+    // far_end say of a number that the ends are below 512, which of the items of a zip each pass would have to show, and
+    // a pass down needs the number.
     pub fn reached(&self, chosen: &[bool; 512]) -> [bool; 512]
         ensures { Reaching self.now.far.now self.now.near.now self.now.count chosen.now result }
     {

@@ -46,7 +46,7 @@ pub(crate) struct RegisterMap {
 }
 
 // The cell of a key's guess: names that differ modulo 8, with indices below 256, have cells of their own. Crate graph
-// counts cells so too: each cell is private to a table of its own.
+// counts cells so too: for one line in each, one call for both would be a public one of crate file.
 fn hint_cell(key: RegisterKey) -> usize
     ensures { result < 2048 }
 {
@@ -155,7 +155,8 @@ impl RegisterMap {
         there
     }
 
-    // The definition's keys that are not marked, behind the others.
+    // The definition's keys that are not marked, behind the others. An array of 256, the most that a definition has, as
+    // the index of a key below it.
     fn append_unmarked(&mut self, there: &[bool; 256], d: Definition) -> Result<(), NoRoom>
         requires { Marked d.name d.length d.v.0 (entries_of self.old.entries) there.now }
         ensures { Becomes result self.old.entries self.new.entries (put_all (definition d.name d.v.0 d.length 0) (entries_of self.old.entries)) }

@@ -10,7 +10,8 @@ mod writer;
 pub use lines::{blocks_text, blocks_text_by};
 
 // The first `length` bytes are the text; the rest are zeros. The buffer is fixed, since the libraries have no heap: 5,120
-// bytes hold the lines of 512 nodes.
+// bytes hold the lines of 512 nodes. That `length` is no more stands in the contracts of what makes one, and in no ghost
+// field, which would ask it of a caller who fills the fields.
 #[derive(Clone, Copy)]
 pub struct Text {
     pub length: usize,

@@ -30,8 +30,8 @@ fn in_turn(i: usize, m: usize, up: bool) -> usize
     if up { i } else { m - (i + 1) }
 }
 
-// One pass along the edges, up or down the list: whether it changed a number. Like the passes below it goes over
-// indices: two arrays cut to the count and zipped would say no more, and a pass down needs the index.
+// One pass along the edges, up or down the list: whether it changed a number. By the arc's number, like the
+// passes below: that the ends are below 512 is known of a number (Arcs), and a pass down needs it.
 fn sweep(arcs: &Arcs, up: bool, num: &mut [u16; 512]) -> bool
     ensures { Swept arcs.now.far.now arcs.now.near.now arcs.now.count num.old num.new result }
 {
