@@ -108,7 +108,7 @@ impl<'a> Operations<'a> {
     }
 
     // So are all entries of an end's map.
-    fn names_all(&self, node: &[u16; 64]) -> bool
+    fn names_all(&self, node: &[u16]) -> bool
         ensures { result ≡ all_of (if_present (operates self.now.g.now.nodes)) node.now }
     {
         node.iter().all(|x| self.names(*x))
@@ -255,7 +255,8 @@ impl<'a> Entries<'a> {
         all_below(&self.map.node[..self.map.count], n) && (self.keys_ascend() || self.keys_differ())
     }
 
-    // The key of entry i.
+    // The key of entry i. Crate registers has the same: one for both would be public, and so ask nothing of i, and of what
+    // it gave past the end neither would have a use.
     fn key(&self, i: usize) -> RegisterKey
         requires { i < 256 }
         ensures { result ≡ key_in self.now.map.now i }

@@ -4,9 +4,9 @@ ghost use Rattle.std.specs.Prelude.{◌≡◌, true, false, cond, ◌&&◌, List
 ghost use Rattle.file.specs.Lists.{any_of, add};
 ghost use Rattle.graph.specs.Dag.{present, or_else, node, no_end};
 ghost use Rattle.graph.specs.declared.End.{End};
-ghost use Rattle.links.specs.Links.{rule_of, qubits, near_after, source, no_qubit, mapped, link_set, link_all, link_by, link_at, edge_bound};
+ghost use Rattle.links.specs.Links.{rule_of, qubits, near_after, source, no_qubit, mapped, link_set, link_all, link_by, edge_bound};
 ghost use Rattle.links.specs.Numbers.{number_of};
-ghost use Rattle.links.specs.Ends.{entry_at, with_entry, IsOnly, EndFits, Joined, JoinedEnds};
+ghost use Rattle.links.specs.Ends.{entry_at, with_entry, IsOnly, EndFits, Joined};
 
 use crate::LoadingRule;
 use crate::numbers::{MapQubit, Node, Qubits};
@@ -100,7 +100,7 @@ impl WorkingEnd {
     {
         let i = q.index();
         self.end.node[i] = v.number.0;
-        self.top = usize::max(self.top, i + 1);
+        self.top = self.top.max(i + 1);
     }
 
     // The source, where there is one, leaves the block, and v joins it.
@@ -168,7 +168,7 @@ impl WorkingEnd {
     }
 }
 
-// The block loses its nodes. Where it is known to have one alone, that one is taken out, else the whole is cleared.
+// The block, of 512 marks as in graph's sets, loses its nodes. Where it is known to have one alone, that one is taken out, else the whole is cleared.
 fn clear_block(block: &mut [bool; 512], members: Members)
     requires { IsOnly members block.old }
     ensures { block.new ≡ replicate 512 false }
@@ -212,7 +212,7 @@ fn fresh_entry(rule: LoadingRule, near: &WorkingEnd, far: &WorkingEnd, v: Node) 
 fn qubit_count(mask: u64) -> usize
     ensures { result ≡ length (qubits mask) }
 {
-    u64::count_ones(mask) as usize
+    mask.count_ones() as usize
 }
 
 // The most edges that a record with these qubits adds: the count of a Set's qubits bounds them.
@@ -317,7 +317,7 @@ fn join_all(near: &mut WorkingEnd, far: &mut WorkingEnd, others: &mut Others, v:
 }
 
 // v joins both ends by the qubits that it involves.
-fn join_end(
+pub(crate) fn join_end(
     near: &mut WorkingEnd,
     far: &mut WorkingEnd,
     others: &mut Others,
@@ -333,23 +333,4 @@ fn join_end(
         InvolvedQubits::All => join_all(near, far, others, v),
         InvolvedQubits::Set(mask) => join_set(near, far, others, mask, v, rule),
     }
-}
-
-// v joins the graph's two ends: at the back near is last, at the front first. front stays a bool, as in the file's
-// record.
-pub(crate) fn join_record(
-    first: &mut WorkingEnd,
-    last: &mut WorkingEnd,
-    others: &mut Others,
-    front: bool,
-    qubits: InvolvedQubits,
-    v: Node,
-    rule: LoadingRule,
-)
-    ensures { JoinedEnds front (link_at (rule_of rule) front qubits v.number.0 first.old last.old) first.new last.new others.new }
-{
-    if front {
-        return join_end(first, last, others, qubits, v, rule);
-    }
-    join_end(last, first, others, qubits, v, rule)
 }

@@ -104,7 +104,7 @@ impl Iterator for Qubits {
             return None;
         }
         // A cast: a mask that is not 0 has at most 63 trailing zeros.
-        let lowest = u64::trailing_zeros(self.left) as u8;
+        let lowest = self.left.trailing_zeros() as u8;
         self.left &= self.left - 1;
         Some(MapQubit {
             number: Qubit(lowest),

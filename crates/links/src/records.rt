@@ -1,16 +1,16 @@
-// The ends and edges of a list of records, and of one record on the ends and edges of a graph. No other part of an insertion reads
-// them, so that a load makes them in a loop of their own.
+// The ends and edges of a list of records, and of one record on the ends and edges of a graph. No other part of an
+// insertion reads them, so that a load makes them in a loop of their own.
 ghost use Rattle.std.specs.Prelude.{◌≡◌, true, false, [], ◌+◌, ◌≤◌, ◌<◌, ltb, length};
 ghost use Rattle.file.specs.Lists.{all_of};
 ghost use Rattle.file.specs.Pairs.{pair_place};
 ghost use Rattle.file.specs.Records.{refusal_from};
 ghost use Rattle.graph.specs.Dag.{empty, no_end};
 ghost use Rattle.graph.specs.Soundness.{named, if_present};
-ghost use Rattle.links.specs.Ends.{EndFits};
-ghost use Rattle.links.specs.Links.{rule_of};
+ghost use Rattle.links.specs.Ends.{EndFits, JoinedEnds};
+ghost use Rattle.links.specs.Links.{rule_of, link_at};
 ghost use Rattle.links.specs.Linking.{links_from, links_stopped, no_links, links_fit, links_kept, answered, link_record, link_node, link_records};
 
-use crate::ends::{WorkingEnd, edges_pass, join_record};
+use crate::ends::{WorkingEnd, edges_pass, join_end};
 use crate::numbers::Node;
 use crate::others::{Others, add_edges};
 use crate::{LinkedRecords, LoadingRule};
@@ -114,7 +114,21 @@ impl Links {
         }
     }
 
-    // Record i, at this end and with these qubits, as node k: 5, 6, or the ends and edges with it.
+    // v joins both ends: at the back near is last, at the front first. front stays a bool, as in the file's record.
+    fn join(&mut self, front: bool, qubits: InvolvedQubits, v: Node, rule: LoadingRule)
+        ensures joined { JoinedEnds front (link_at (rule_of rule) front qubits v.number.0 self.old.first self.old.last)
+            self.new.first self.new.last self.new.others }
+        ensures edges { self.new.edges ≡ self.old.edges }
+    {
+        let (first, last) = (&mut self.first, &mut self.last);
+        if front {
+            return join_end(first, last, &mut self.others, qubits, v, rule);
+        }
+        join_end(last, first, &mut self.others, qubits, v, rule)
+    }
+
+    // Record i, at this end and with these qubits, as node k: 5, 6, or the ends and edges with it. The rule, the end and
+    // the qubits come one by one, as link_node is handed them: a struct would be made and taken apart for each record.
     fn take(
         &mut self,
         rule: LoadingRule,
@@ -127,15 +141,7 @@ impl Links {
             ≡ link_record (rule_of rule) i front qubits (links_from k self.old.edges self.old.first self.old.last) }
     {
         let v = Node::at(k)?;
-        join_record(
-            &mut self.first,
-            &mut self.last,
-            &mut self.others,
-            front,
-            qubits,
-            v,
-            rule,
-        );
+        self.join(front, qubits, v, rule);
         if edges_pass(self.edges.count, self.others.len(), qubits) {
             return Err(Refusal::TooManyEdges(i));
         }

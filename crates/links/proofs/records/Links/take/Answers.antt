@@ -12,20 +12,20 @@ returns-in_err-v c =
 pub edges_pass-requires : goal.edges_pass-requires
 edges_pass-requires c =
     let small : c.args.k < 512 = omega (arith, c.in_ok-v.v.low, c.in_ok-v.ensures) in
-    let joined = rw c.in_ok-v.ensures at c.join_record.ensures in
+    let joined = rw c.in_ok-v.ensures at c.join.ensures.joined in
     let b = bounded _ c.args.i _ _ _ c.args.self.now.edges _ _ small _ _ _ joined (omega (arith, c.len.ensures.counted, c.len.ensures.few)) in
-    (c.args.self.now.room, omega (arith, b, c.len.ensures.counted))
+    (rw c.join.ensures.edges c.args.self.now.room, omega (arith, b, c.len.ensures.counted))
 
 pub returns-then-edges_pass : goal.returns-then-edges_pass
 returns-then-edges_pass c =
     let small : c.args.k < 512 = omega (arith, c.in_ok-v.v.low, c.in_ok-v.ensures) in
-    let joined = rw c.in_ok-v.ensures at c.join_record.ensures in
-    let more : 2048 < c.args.self.now.edges.count + c.len.result = ltb-true _ _ (sym c.edges_pass.ensures ∙ c.if-edges_pass.true) in
+    let joined = rw c.in_ok-v.ensures at c.join.ensures.joined in
+    let more : 2048 < c.args.self.now.edges.count + c.len.result = ltb-true _ _ (rw c.join.ensures.edges at (sym c.edges_pass.ensures ∙ c.if-edges_pass.true)) in
     edges_full _ _ _ _ _ _ _ _ small _ _ _ joined (omega (arith, c.len.ensures.counted))
 
 pub returns : goal.returns
 returns c =
     let small : c.args.k < 512 = omega (arith, c.in_ok-v.v.low, c.in_ok-v.ensures) in
-    let joined = rw c.in_ok-v.ensures at c.join_record.ensures in
-    let room : c.args.self.now.edges.count + c.len.result ≤ 2048 = ltb-false _ _ (sym c.edges_pass.ensures ∙ c.if-edges_pass.false) in
-    grows _ _ _ _ _ _ _ _ small _ _ _ joined (omega (arith, c.len.ensures.counted)) _ (rw c.in_ok-v.ensures at c.add_edges.ensures)
+    let joined = rw c.in_ok-v.ensures at c.join.ensures.joined in
+    let room : c.args.self.now.edges.count + c.len.result ≤ 2048 = ltb-false _ _ (rw c.join.ensures.edges at (sym c.edges_pass.ensures ∙ c.if-edges_pass.false)) in
+    grows _ _ _ _ _ _ _ _ small _ _ _ joined (omega (arith, c.len.ensures.counted)) _ (rw (c.in_ok-v.ensures, c.join.ensures.edges) at c.add_edges.ensures)
