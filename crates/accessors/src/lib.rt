@@ -70,7 +70,7 @@ pub fn last_parallel_block(g: CircuitDag, buffer: &mut [u16]) -> Result<usize, R
     answer_marked(g.last.block, buffer)
 }
 
-// The operation that an end's map has at a qubit.
+// The operation that an end's map has at a qubit: 65535 is none there, as in all arrays of the graph.
 fn at_qubit(end: End, q: Qubit) -> Option<NodeIndex>
     ensures { result ≡ operation_of (at_qubit end q.0) }
 {
@@ -101,12 +101,17 @@ pub fn last_operation_involving_qubit(g: CircuitDag, q: Qubit) -> Result<Option<
     Ok(at_qubit(g.last, q))
 }
 
-// The first position in a register map that has a key. Field by field: an entry stands in columns.
+// The first position in a register map that has a key.
 fn position_of(r: &Registers, key: RegisterKey) -> Option<usize>
     requires { r.now.count ≤ 256 }
     ensures { FirstWith r.now key result }
 {
-    (0..r.count).find(|i| r.name[*i] == key.name && r.index[*i] == key.index)
+    (0..r.count).find(|i| {
+        RegisterKey {
+            name: r.name[*i],
+            index: r.index[*i],
+        } == key
+    })
 }
 
 // The operation that a register map has at a key.

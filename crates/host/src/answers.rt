@@ -1,5 +1,5 @@
-// Each answer of the crates below as two numbers, for C has no Result and no Option: 65535 is none. The conversions of a
-// Result differ in what an accepted call found; a generic one would need a trait with the same five cases.
+// Each answer of the crates below as two numbers, for C has no Result and no Option: 65535 is none. What an accepted call
+// found is made a number first, and then goes as a count does. Insertions and loads differ as insertion's two types do.
 ghost use Rattle.std.specs.Prelude.{◌≡◌};
 ghost use Rattle.host.specs.Answers.{accepts, refuses, no_node, of_count, of_inserted, of_loaded, of_step, of_place, of_got, of_operation, no_operation, graph_loaded, graph_inserted};
 
@@ -44,10 +44,7 @@ impl From<Result<NodeIndex, Refusal>> for HostAnswer {
     ghost from_gives = { λ x r. r ≡ of_inserted x };
 
     fn from(x: Result<NodeIndex, Refusal>) -> HostAnswer {
-        match x {
-            Ok(v) => accept(usize::from(v.0)),
-            Err(c) => HostAnswer::from(c),
-        }
+        HostAnswer::from(x.map(|v| usize::from(v.0)))
     }
 }
 
@@ -55,10 +52,7 @@ impl From<Result<(), Refusal>> for HostAnswer {
     ghost from_gives = { λ x r. r ≡ of_loaded x };
 
     fn from(x: Result<(), Refusal>) -> HostAnswer {
-        match x {
-            Ok(()) => accept(0),
-            Err(c) => HostAnswer::from(c),
-        }
+        HostAnswer::from(x.map(|()| 0))
     }
 }
 
@@ -66,10 +60,7 @@ impl From<Result<Option<usize>, Refusal>> for HostAnswer {
     ghost from_gives = { λ x r. r ≡ of_step x };
 
     fn from(x: Result<Option<usize>, Refusal>) -> HostAnswer {
-        match x {
-            Ok(found) => accept(found.unwrap_or(65535)),
-            Err(c) => HostAnswer::from(c),
-        }
+        HostAnswer::from(x.map(|k| k.unwrap_or(65535)))
     }
 }
 
@@ -77,11 +68,7 @@ impl From<Result<Option<NodeIndex>, Refusal>> for HostAnswer {
     ghost from_gives = { λ x r. r ≡ of_operation x };
 
     fn from(x: Result<Option<NodeIndex>, Refusal>) -> HostAnswer {
-        match x {
-            Ok(Some(v)) => accept(usize::from(v.0)),
-            Ok(None) => accept(65535),
-            Err(c) => HostAnswer::from(c),
-        }
+        HostAnswer::from(x.map(|o| o.map_or(65535, |v| usize::from(v.0))))
     }
 }
 
