@@ -9,6 +9,7 @@ use links::LoadingRule;
 use standard_io::{Answer, Entries, Files};
 use std::io;
 
+// One call here and one below: with the call as a closure, as query_runs has it, these two functions would be three.
 fn print_schedule(rt: &impl Print, file: &[u8], buffer: &mut [u16]) -> io::Result<()> {
     buffer.fill(9999);
     let answer = schedule::schedule_both_ends(file, &mut *buffer);

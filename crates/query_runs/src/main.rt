@@ -9,85 +9,76 @@ use graph::{CircuitDag, NodeIndex};
 use standard_io::{Answer, Files};
 use std::io;
 
-// What a call answered, and the buffer that it was lent.
-fn print_answer(
+// What a call answers, and the buffer that it is lent, which holds 9999.
+fn probe_call<F: FnOnce(&mut [u16]) -> Result<usize, Refusal>>(
     rt: &impl Print,
     title: &str,
-    answer: Result<usize, Refusal>,
-    buffer: &[u16],
-) -> io::Result<()> {
+    buffer: &mut [u16],
+    call: F,
+) -> io::Result<()>
+    requires { F.IsAlwaysCallable call }
+{
+    buffer.fill(9999);
+    let answer = call(&mut *buffer);
     println!(rt; "{title}{}", Answer { answer, buffer })
 }
 
-// What node v waits for. Here and below the graph, the node and the buffer are what the queries themselves take.
+// What node v waits for, and what follows it. Here and below the graph, the node and the buffer are what the queries
+// themselves take.
 fn probe_node(rt: &impl Print, g: CircuitDag, v: u16, buffer: &mut [u16]) -> io::Result<()> {
     println!(rt; "node {v} buffer {}", buffer.len())?;
     let executed = [0, 0, 700];
-    buffer.fill(9999);
-    let x = queries::execution_blocked(g, &executed, NodeIndex(v), &mut *buffer);
-    print_answer(rt, "execution_blocked", x, &*buffer)?;
-    buffer.fill(9999);
-    let y = queries::blocking_predecessors(g, &executed, NodeIndex(v), &mut *buffer);
-    print_answer(rt, "blocking_predecessors", y, &*buffer)
-}
-
-// What follows node v.
-fn probe_successors(rt: &impl Print, g: CircuitDag, v: u16, buffer: &mut [u16]) -> io::Result<()> {
-    buffer.fill(9999);
-    let x = queries::successors(g, NodeIndex(v), &mut *buffer);
-    print_answer(rt, "successors", x, &*buffer)
+    probe_call(rt, "execution_blocked", &mut *buffer, |lent| {
+        queries::execution_blocked(g, &executed, NodeIndex(v), lent)
+    })?;
+    probe_call(rt, "blocking_predecessors", &mut *buffer, |lent| {
+        queries::blocking_predecessors(g, &executed, NodeIndex(v), lent)
+    })?;
+    probe_call(rt, "successors", buffer, |lent| {
+        queries::successors(g, NodeIndex(v), lent)
+    })
 }
 
 // The new front layer of a layer that has node v and of one that has it not.
 fn probe_layer(rt: &impl Print, g: CircuitDag, v: u16, buffer: &mut [u16]) -> io::Result<()> {
     let executed = [0u16];
     let with = [1u16, v, 700, v];
-    buffer.fill(9999);
-    let x = queries::new_front_layer(g, &executed, &with, NodeIndex(v), &mut *buffer);
-    print_answer(rt, "new_front_layer", x, &*buffer)?;
+    probe_call(rt, "new_front_layer", &mut *buffer, |lent| {
+        queries::new_front_layer(g, &executed, &with, NodeIndex(v), lent)
+    })?;
     let without = [700u16];
-    buffer.fill(9999);
-    let y = queries::new_front_layer(g, &executed, &without, NodeIndex(v), &mut *buffer);
-    print_answer(rt, "new_front_layer without it", y, &*buffer)
-}
-
-// All that takes a node.
-fn probe_both(rt: &impl Print, g: CircuitDag, v: u16, buffer: &mut [u16]) -> io::Result<()> {
-    probe_node(rt, g, v, &mut *buffer)?;
-    probe_successors(rt, g, v, &mut *buffer)?;
-    probe_layer(rt, g, v, &mut *buffer)
+    probe_call(rt, "new_front_layer without it", buffer, |lent| {
+        queries::new_front_layer(g, &executed, &without, NodeIndex(v), lent)
+    })
 }
 
 // What takes a graph alone.
 fn probe_graph(rt: &impl Print, g: CircuitDag, buffer: &mut [u16]) -> io::Result<()> {
-    buffer.fill(9999);
-    let x = queries::to_circuit(g, &mut *buffer);
-    print_answer(rt, "to_circuit", x, &*buffer)?;
-    buffer.fill(9999);
-    let y = planning::chain(g, &mut *buffer);
-    print_answer(rt, "chain", y, &*buffer)?;
-    buffer.fill(9999);
-    let count = walk::whole_walk(g, &mut *buffer);
-    print_answer(rt, "whole_walk", count, &*buffer)
+    probe_call(rt, "to_circuit", &mut *buffer, |lent| {
+        queries::to_circuit(g, lent)
+    })?;
+    probe_call(rt, "chain", &mut *buffer, |lent| planning::chain(g, lent))?;
+    probe_call(rt, "whole_walk", buffer, |lent| walk::whole_walk(g, lent))
 }
 
 // The lists that a graph holds.
 fn probe_lists(rt: &impl Print, g: CircuitDag, buffer: &mut [u16]) -> io::Result<()> {
-    buffer.fill(9999);
-    let x = accessors::commuting_operations(g, &mut *buffer);
-    print_answer(rt, "commuting_operations", x, &*buffer)?;
-    buffer.fill(9999);
-    let y = accessors::first_parallel_block(g, &mut *buffer);
-    print_answer(rt, "first_parallel_block", y, &*buffer)?;
-    buffer.fill(9999);
-    let z = accessors::last_parallel_block(g, &mut *buffer);
-    print_answer(rt, "last_parallel_block", z, &*buffer)
+    probe_call(rt, "commuting_operations", &mut *buffer, |lent| {
+        accessors::commuting_operations(g, lent)
+    })?;
+    probe_call(rt, "first_parallel_block", &mut *buffer, |lent| {
+        accessors::first_parallel_block(g, lent)
+    })?;
+    probe_call(rt, "last_parallel_block", buffer, |lent| {
+        accessors::last_parallel_block(g, lent)
+    })
 }
 
 // Everything on one graph, with one buffer; v is the number after the last node.
 fn probe_with(rt: &impl Print, g: CircuitDag, v: u16, buffer: &mut [u16]) -> io::Result<()> {
     for node in [0, 2, v, 65535] {
-        probe_both(rt, g, node, &mut *buffer)?;
+        probe_node(rt, g, node, &mut *buffer)?;
+        probe_layer(rt, g, node, &mut *buffer)?;
     }
     probe_graph(rt, g, &mut *buffer)?;
     probe_lists(rt, g, &mut *buffer)
@@ -103,9 +94,9 @@ fn probe(rt: &impl Print, g: CircuitDag, v: u16) -> io::Result<()> {
 
 // A circuit file scheduled in one call.
 fn probe_schedule(rt: &impl Print, bytes: &[u8], buffer: &mut [u16]) -> io::Result<()> {
-    buffer.fill(9999);
-    let count = schedule::schedule(bytes, &mut *buffer);
-    print_answer(rt, "schedule", count, &*buffer)
+    probe_call(rt, "schedule", buffer, |lent| {
+        schedule::schedule(bytes, lent)
+    })
 }
 
 // The same with no buffer, buffers of one and two entries, and a long one.

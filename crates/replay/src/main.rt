@@ -46,15 +46,17 @@ fn print_first(rt: &impl Print, list: &[u16], k: usize) -> io::Result<()> {
 }
 
 // A query's answer.
-fn print_query(
+fn print_query<F: FnOnce(&mut [u16]) -> Result<usize, Refusal>>(
     rt: &impl Print,
     title: &str,
-    answer: Result<usize, Refusal>,
-    buffer: &[u16],
-) -> io::Result<()> {
+    query: F,
+) -> io::Result<()>
+    requires { F.IsAlwaysCallable query }
+{
+    let mut buffer = [0u16; 512];
     print!(rt; "{title}")?;
-    match answer {
-        Ok(k) => print_first(rt, buffer, k),
+    match query(&mut buffer) {
+        Ok(k) => print_first(rt, &buffer, k),
         Err(r) => println!(rt; " {r}"),
     }
 }
@@ -108,18 +110,18 @@ fn print_registers(rt: &impl Print, title: &str, r: &Registers) -> io::Result<()
     println!(rt)
 }
 
-// Kind, qubit form and label of each node, then its successors, predecessors and all nodes that block it.
-fn print_node(rt: &impl Print, g: CircuitDag, v: u16) -> io::Result<()> {
-    let mut buffer = [0u16; 512];
-    let a = queries::successors(g, NodeIndex(v), &mut buffer);
-    print_query(rt, "successors:", a, &buffer)?;
-    let b = queries::blocking_predecessors(g, &[], NodeIndex(v), &mut buffer);
-    print_query(rt, "predecessors:", b, &buffer)?;
-    let c = queries::execution_blocked(g, &[], NodeIndex(v), &mut buffer);
-    print_query(rt, "blocked by:", c, &buffer)
+// A node's successors, predecessors and all nodes that block it.
+fn print_node(rt: &impl Print, g: CircuitDag, v: NodeIndex) -> io::Result<()> {
+    print_query(rt, "successors:", |lent| queries::successors(g, v, lent))?;
+    print_query(rt, "predecessors:", |lent| {
+        queries::blocking_predecessors(g, &[], v, lent)
+    })?;
+    print_query(rt, "blocked by:", |lent| {
+        queries::execution_blocked(g, &[], v, lent)
+    })
 }
 
-// By number, since what a node keeps stands in columns. The cast keeps the value: v is below 512.
+// Each node's kind, qubit form and label, then its queries. By number, since what a node keeps stands in columns. The cast keeps the value: v is below 512.
 fn print_nodes(rt: &impl Print, g: CircuitDag) -> io::Result<()> {
     for v in 0..g.nodes.count.min(512) {
         let nodes = &g.nodes;
@@ -127,7 +129,7 @@ fn print_nodes(rt: &impl Print, g: CircuitDag) -> io::Result<()> {
             "node {v}: {} {} {}",
             nodes.kind[v], nodes.form[v], nodes.label[v]
         )?;
-        print_node(rt, g, v as u16)?;
+        print_node(rt, g, NodeIndex(v as u16))?;
     }
     Ok(())
 }
@@ -209,13 +211,15 @@ fn print_answers(
     executed: &[u16],
     layer: &[u16],
 ) -> io::Result<()> {
-    let mut buffer = [0u16; 512];
-    let a = queries::execution_blocked(g, executed, v, &mut buffer);
-    print_query(rt, "query, blocked by:", a, &buffer)?;
-    let b = queries::blocking_predecessors(g, executed, v, &mut buffer);
-    print_query(rt, "predecessors:", b, &buffer)?;
-    let c = queries::new_front_layer(g, executed, layer, v, &mut buffer);
-    print_query(rt, "layer:", c, &buffer)
+    print_query(rt, "query, blocked by:", |lent| {
+        queries::execution_blocked(g, executed, v, lent)
+    })?;
+    print_query(rt, "predecessors:", |lent| {
+        queries::blocking_predecessors(g, executed, v, lent)
+    })?;
+    print_query(rt, "layer:", |lent| {
+        queries::new_front_layer(g, executed, layer, v, lent)
+    })
 }
 
 // The same, the lists being bytes, of which at most 32 are taken, into arrays: there is no heap.
