@@ -8,25 +8,31 @@ use graph::CircuitDag;
 use std::{array, io};
 use writing::Gate;
 
-// Gate k's mask. Plain: qubit 0. In layers of 8: row k of an 8 x 8 grid of qubits in one layer, column k in the next, so
-// that a gate has one qubit from every gate of the layer before.
-fn mask_of(layers: bool, k: usize) -> u64 {
-    let j = k % 8;
-    if !layers {
-        return 1;
-    }
-    if k / 8 % 2 == 0 {
-        return 255 << (8 * j);
-    }
-    0x0101_0101_0101_0101 << j
+// The masks of a file's gates: of qubit 0 alone, or in layers of 8, where each gate has one qubit from every gate of the
+// layer before.
+#[derive(Clone, Copy)]
+enum Pattern {
+    Plain,
+    Layers,
 }
 
-// A file of n gates, of at most 512, at the start of the array. front is the record's own bool; layers stays one, since a
-// closure that gives the mask would have to say that it takes every k.
-fn gates(n: usize, front: bool, layers: bool) -> [u8; 9218] {
+impl Pattern {
+    // Gate k's mask. The layers are by turns the rows and the columns of an 8 x 8 grid of qubits.
+    fn mask(self, k: usize) -> u64 {
+        let j = k % 8;
+        match self {
+            Pattern::Plain => 1,
+            Pattern::Layers if k / 8 % 2 == 0 => 255 << (8 * j),
+            Pattern::Layers => 0x0101_0101_0101_0101 << j,
+        }
+    }
+}
+
+// A file of n gates, of at most 512, at the start of the array. front is the record's own bool.
+fn gates(n: usize, front: bool, pattern: Pattern) -> [u8; 9218] {
     let gates: [Gate; 512] = array::from_fn(|k| Gate {
         front,
-        mask: mask_of(layers, k),
+        mask: pattern.mask(k),
     });
     let mut file = [0; 9218];
     let _ = writing::write_gates(&gates[..n.min(512)], &mut file);
@@ -146,7 +152,7 @@ fn print_empty_set(rt: &impl Print) -> io::Result<()> {
         front: false,
         mask: 0,
     });
-    let back = gates(512, false, false);
+    let back = gates(512, false, Pattern::Plain);
     print_load(
         rt,
         "512 at the back, then an empty set: ",
@@ -158,7 +164,7 @@ fn print_empty_set(rt: &impl Print) -> io::Result<()> {
 
 // 2,048 edges, and one more.
 fn print_layers(rt: &impl Print, gate: &[u8]) -> io::Result<()> {
-    let layers = gates(264, false, true);
+    let layers = gates(264, false, Pattern::Layers);
     match layers.get(..4754) {
         Some(file) => print_load(rt, "33 layers of 8: ", file, 263, gate),
         None => Ok(()),
@@ -171,9 +177,9 @@ fn main(rt: HostRuntime) -> io::Result<()> {
         mask: 1,
     });
     let entry = [0u8, 0, 0, 0, 0, 0, 0, 0, 0, 0, 0, 3, 0, 0, 1, 2, 0, 0];
-    let back = gates(512, false, false);
+    let back = gates(512, false, Pattern::Plain);
     print_load(&rt, "512 at the back: ", &back, 511, &gate)?;
-    let front = gates(512, true, false);
+    let front = gates(512, true, Pattern::Plain);
     print_load(&rt, "512 at the front: ", &front, 511, &gate)?;
     print_layers(&rt, &gate)?;
     let most = definition(256);
