@@ -3,26 +3,17 @@
 // appended nodes of a layer ascending.
 #![tactic(auto)]
 
-ghost use Rattle.std.specs.Prelude.{◌<◌, ◌≤◌, length};
+ghost use Rattle.std.specs.Prelude.{◌≤◌, length};
 
-use file::{Refusal, byte_at};
+use file::Refusal;
 use graph::{CircuitDag, Commuting, End, NodeIndex, Registers};
 use insertion::Loaded;
 use std::io;
 use walk::ParallelBlocks;
 
-// A number of two bytes, the low one first; a byte past the end counts as 0.
-fn number_at(bytes: &[u8], i: usize) -> usize
-    requires { i < 8 }
-    ensures { result < 65536 }
-{
-    usize::from(u16::from_le_bytes([byte_at(bytes, i), byte_at(bytes, i + 1)]))
-}
-
 // The first n bytes, as many as there are, and the rest.
 fn cut(bytes: &[u8], n: usize) -> (&[u8], &[u8])
-    ensures at_most { length result.1.now ≤ length bytes.now }
-    ensures fewer { 0 < n → 0 < length bytes.now → length result.1.now < length bytes.now }
+    ensures { length result.1.now ≤ length bytes.now }
 {
     bytes.split_at(n.min(bytes.len()))
 }
@@ -260,13 +251,14 @@ fn build(converted: bool, file: &[u8]) -> Loaded {
     insertion::load(file)
 }
 
-// An item: its length, whether the file is converted or loaded, the file's length, the file, queries.
+// An item: whether the file is converted or loaded, the file's length, the file, queries.
 fn replay_item(rt: &impl Print, item: &[u8]) -> io::Result<()> {
-    if item.len() < 5 {
+    let [way, low, high, rest @ ..] = item else {
         return Ok(());
-    }
-    let (file, queries) = cut(&item[5..], number_at(item, 3));
-    let x = build(item[2] == 1, file);
+    };
+    let size = u16::from_le_bytes([*low, *high]);
+    let (file, queries) = cut(rest, usize::from(size));
+    let x = build(*way == 1, file);
     match x.answer {
         Ok(()) => println!(rt; "circuit")?,
         Err(r) => println!(rt; "circuit {r}")?,
@@ -275,13 +267,15 @@ fn replay_item(rt: &impl Print, item: &[u8]) -> io::Result<()> {
     replay_queries(rt, x.graph, queries)
 }
 
-// A loop over the items and no Files: an item that ends early is still replayed, as far as it goes.
+// Each item stands behind its length. A loop over them and no Files: an item that ends early is still replayed, as far
+// as it goes.
 fn main(rt: HostRuntime) -> io::Result<()> {
     let mut input = [0; 65536];
     let n = standard_io::read_file(&rt, &mut input);
     let mut rest = &input[..n];
-    while !rest.is_empty() {
-        let (item, after) = cut(rest, 2 + number_at(rest, 0));
+    while let [low, high, items @ ..] = rest {
+        let size = u16::from_le_bytes([*low, *high]);
+        let (item, after) = cut(items, usize::from(size));
         replay_item(&rt, item)?;
         rest = after;
     }
