@@ -5,7 +5,7 @@
 
 ghost use Rattle.std.specs.Prelude.{◌≤◌, length};
 
-use file::Refusal;
+use file::{Refusal, RegisterKey};
 use graph::{CircuitDag, Commuting, End, NodeIndex, Registers};
 use insertion::Loaded;
 use std::io;
@@ -82,9 +82,10 @@ fn print_all_node(rt: &impl Print, all: NodeIndex) -> io::Result<()> {
     println!(rt)
 }
 
-// The node of a key, which stands in two columns.
-fn node_of(r: &Registers, name: u8, index: u16) -> Option<u16> {
-    let i = (0..r.count.min(256)).find(|i| r.name[*i] == name && r.index[*i] == index)?;
+// The node of a key, which stands in two columns. No call of crate accessors, which would test the whole graph again at
+// each of 1,024 keys: like every map here, this one is shown as the graph holds it.
+fn node_of(r: &Registers, key: RegisterKey) -> Option<u16> {
+    let i = (0..r.count.min(256)).find(|i| r.name[*i] == key.name && r.index[*i] == key.index)?;
     r.node.get(i).copied()
 }
 
@@ -93,7 +94,7 @@ fn print_registers(rt: &impl Print, title: &str, r: &Registers) -> io::Result<()
     print!(rt; "{title} registers {}:", r.count)?;
     for name in 0..4u8 {
         for index in 0..256u16 {
-            if let Some(v) = node_of(r, name, index) {
+            if let Some(v) = node_of(r, RegisterKey { name, index }) {
                 print!(rt; " {name}.{index}>{v}")?;
             }
         }
