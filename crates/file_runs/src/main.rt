@@ -134,7 +134,7 @@ fn count_changes(trial: Trial) -> Counts {
 }
 
 // A file of n records of 14 zero bytes in a larger array: the header and pair k, then zeros. By number, here and in
-// entry_list: a pair's fields and an entry's are written from it.
+// a list's file: a pair's fields and an entry's are written from it.
 fn zero_records(n: u16) -> [u8; 9237]
     requires { n ≤ 513 }
 {
@@ -148,22 +148,52 @@ fn zero_records(n: u16) -> [u8; 9237]
     file
 }
 
-// A file of one record in a larger array: its length, count byte c, then the entries (1, 0), (1, 1), .. up to n of
-// them.
-fn entry_list(c: u8, n: u8, length: u8) -> [u8; 99]
-    requires { n ≤ 26 }
-{
-    let mut file = [0; 99];
-    file[0] = 1;
-    file[2] = 6;
-    file[4] = length;
-    file[17] = 3;
-    file[20] = c;
-    for k in 0..n {
-        file[usize::from(21 + 3 * k)] = 1;
-        file[usize::from(22 + 3 * k)] = k;
+// A record's register list: its count byte, and how many entries there are.
+#[derive(Clone, Copy)]
+struct Listing {
+    count: u8,
+    entries: u8,
+    ghost room: { entries ≤ 26 },
+}
+
+impl Listing {
+    fn of(count: u8, entries: u8) -> Listing
+        requires { entries ≤ 26 }
+    {
+        Listing { count, entries }
     }
-    file
+
+    // A file of one record of this length in a larger array: the count byte, then the entries (1, 0), (1, 1), ..
+    fn file(self, length: u8) -> [u8; 99] {
+        let mut file = [0; 99];
+        file[0] = 1;
+        file[2] = 6;
+        file[4] = length;
+        file[17] = 3;
+        file[20] = self.count;
+        for k in 0..self.entries {
+            file[usize::from(21 + 3 * k)] = 1;
+            file[usize::from(22 + 3 * k)] = k;
+        }
+        file
+    }
+
+    // One line: the count byte, how many entries there are, what else is to say, and the answer to such a record.
+    fn print(self, rt: &impl Print, length: u8, more: &str) -> io::Result<()> {
+        print!(rt; "{} and {}", self.count, self.entries)?;
+        print_limit(rt, more, &self.file(length), 6 + usize::from(length))
+    }
+
+    // The same at the length that fits the entries.
+    fn print_fitting(self, rt: &impl Print) -> io::Result<()> {
+        self.print(rt, 15 + 3 * self.entries, "")
+    }
+
+    // .. and one byte off that length.
+    fn print_off(self, rt: &impl Print) -> io::Result<()> {
+        self.print(rt, 14 + 3 * self.entries, ", one byte less")?;
+        self.print(rt, 16 + 3 * self.entries, ", one byte more")
+    }
 }
 
 // One line: what it is, then the answer to the first n bytes. The length stands beside: that a part such as
@@ -214,54 +244,44 @@ fn print_records(rt: &impl Print) -> io::Result<()> {
     Ok(())
 }
 
-// One line: a count byte, how many entries there are, what else is to say, and the answer to a record of such a
-// length. What n is at most is said three times: a type for it would have to be made at each of the calls.
-fn print_list(rt: &impl Print, c: u8, n: u8, length: u8, more: &str) -> io::Result<()>
-    requires { n ≤ 26 }
-{
-    print!(rt; "{c} and {n}")?;
-    let file = entry_list(c, n, length);
-    print_limit(rt, more, &file, 6 + usize::from(length))
-}
-
-// The same at the length that fits the entries.
-fn print_fitting(rt: &impl Print, c: u8, n: u8) -> io::Result<()>
-    requires { n ≤ 26 }
-{
-    print_list(rt, c, n, 15 + 3 * n, "")
-}
-
-// .. and of as many entries as the count byte says, one byte off that length.
-fn print_off(rt: &impl Print, c: u8) -> io::Result<()>
-    requires { c ≤ 26 }
-{
-    print_list(rt, c, c, 14 + 3 * c, ", one byte less")?;
-    print_list(rt, c, c, 16 + 3 * c, ", one byte more")
-}
-
 // Register lists about their limit, and about the one that K3 raised: the count byte and the entries.
 fn print_lists(rt: &impl Print) -> io::Result<()> {
     println!(rt; "register lists")?;
-    print_fitting(rt, 0, 0)?;
-    print_fitting(rt, 14, 14)?;
-    print_fitting(rt, 15, 15)?;
-    print_fitting(rt, 16, 16)?;
-    print_fitting(rt, 17, 17)?;
-    print_fitting(rt, 16, 15)?;
-    print_fitting(rt, 16, 17)?;
-    print_fitting(rt, 17, 16)?;
-    print_fitting(rt, 17, 18)?;
-    print_fitting(rt, 24, 24)?;
-    print_fitting(rt, 25, 25)?;
-    print_fitting(rt, 24, 23)?;
-    print_fitting(rt, 24, 25)?;
-    print_fitting(rt, 25, 24)?;
-    print_fitting(rt, 25, 26)?;
-    print_off(rt, 16)?;
-    print_off(rt, 17)?;
-    print_off(rt, 24)?;
-    print_off(rt, 25)?;
-    let mut twice = entry_list(24, 24, 87);
+    let fitting = [
+        Listing::of(0, 0),
+        Listing::of(14, 14),
+        Listing::of(15, 15),
+        Listing::of(16, 16),
+        Listing::of(17, 17),
+        Listing::of(16, 15),
+        Listing::of(16, 17),
+        Listing::of(17, 16),
+        Listing::of(17, 18),
+        Listing::of(24, 24),
+        Listing::of(25, 25),
+        Listing::of(24, 23),
+        Listing::of(24, 25),
+        Listing::of(25, 24),
+        Listing::of(25, 26),
+    ];
+    for list in fitting {
+        list.print_fitting(rt)?;
+    }
+    print_lists_off(rt)
+}
+
+// .. whose record is one byte off, and one whose last two entries are the same.
+fn print_lists_off(rt: &impl Print) -> io::Result<()> {
+    let off = [
+        Listing::of(16, 16),
+        Listing::of(17, 17),
+        Listing::of(24, 24),
+        Listing::of(25, 25),
+    ];
+    for list in off {
+        list.print_off(rt)?;
+    }
+    let mut twice = Listing::of(24, 24).file(87);
     twice[91] = 22;
     print_limit(rt, "24 and 24, the last two the same", &twice, 93)
 }
