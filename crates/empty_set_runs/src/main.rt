@@ -35,7 +35,9 @@ fn insert_one(rt: &impl Print, g: CircuitDag, part: &[u8]) -> io::Result<Circuit
     Ok(x.graph)
 }
 
-// The file's records, one after the other.
+// The file's records, one after the other, by their numbers: both_ends_runs has such a loop too, and says why. What it
+// inserts in two ways and prints of it alone is different, so that one for both would take the insertion as a closure,
+// for which a public function would need a `requires`.
 fn insert_each(rt: &impl Print, file: &[u8]) -> io::Result<CircuitDag> {
     let mut g = CircuitDag::new();
     for i in 0..file::record_count(file) {
