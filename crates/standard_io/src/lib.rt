@@ -16,6 +16,7 @@ use std::io::Read;
 
 // Standard input's first 65,536 bytes, or all where they are fewer; how many there are. A read that fails ends the input.
 // A loop, since std's whole reads want a heap or say too little after a failure; it counts what each read gave.
+// The count and no slice, as every call here answers that fills a lent buffer: a slice would save each caller one cut.
 pub fn read_file(rt: &impl Input, file: &mut [u8; 65536]) -> usize
     ensures { result ≤ 65536 }
 {

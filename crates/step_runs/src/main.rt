@@ -141,8 +141,8 @@ fn probe(rt: &impl Print, g: CircuitDag, v: u16) -> io::Result<()> {
 }
 
 // The graph of a circuit file, the empty one where it is refused, then the same with one back insertion too many,
-// which is not sound. query_runs and step_runs have the same lines, each with a probe of its own: a closure that
-// prints would be called twice, and its clauses would say no less.
+// which is not sound. query_runs and step_runs have the same lines, each with a probe of its own: one function for both
+// would be public, and would need a `requires` for the probe as a closure.
 fn probe_load(rt: &impl Print, bytes: &[u8]) -> io::Result<()> {
     let loaded = insertion::load(bytes);
     let mut g = loaded.graph;
