@@ -51,18 +51,30 @@ fn is_empty_set(form: u8, mask: u64) -> bool
     form == 2 && mask == 0
 }
 
+// The key of entry k, all of whose bytes are there: register_key would look how long the record is, twice an entry.
+#[tactic(auto, unfolding(crate::specs::Pairs::number_at))]
+fn key_inside(s: &[u8], k: usize) -> RegisterKey
+    requires { (k ≤ 256) × (18 + 3 * k ≤ length s.now) }
+    ensures { result ≡ key_at s.now k }
+{
+    RegisterKey {
+        name: s[15 + 3 * k],
+        index: u16::from_le_bytes([s[16 + 3 * k], s[17 + 3 * k]]),
+    }
+}
+
 // Entry k comes before the next one: by name, then index.
 #[tactic(auto, unfolding(crate::specs::Records::entry_before))]
 fn entry_before(s: &[u8], k: usize) -> bool
-    requires { k < 256 }
+    requires { (k < 256) × (15 + 3 * (k + 2) ≤ length s.now) }
     ensures { result ≡ entry_before s.now k }
 {
-    register_key(s, k) < register_key(s, k + 1)
+    key_inside(s, k) < key_inside(s, k + 1)
 }
 
 // The entries come in this order.
 fn is_ascending(s: &[u8], c: usize) -> bool
-    requires { c < 256 }
+    requires { (c < 256) × (15 + 3 * c ≤ length s.now) }
     ensures { result ≡ ascend_from (c - 1) 0 s.now }
 {
     (1..c).all(|k| entry_before(s, k - 1))
