@@ -75,8 +75,8 @@ fn insert_each(
     odd: LoadingRule,
 ) -> io::Result<()> {
     let mut g = CircuitDag::new();
-    // By the record's number, since the file's table gives its part by that: an iterator of parts would be a type of its
-    // own for this loop and that of empty_set_runs, whose insertions have one way and print each answer.
+    // By the record's number, since the file's table gives its part by that: an iterator of parts would be a type of
+    // its own for this loop and that of empty_set_runs, whose insertions have one way and print each answer.
     for i in 0..file::record_count(file) {
         let rule = if i % 2 == 0 { even } else { odd };
         g = insert_one(rt, rule, g, file::part_of(file, i))?;
@@ -84,7 +84,7 @@ fn insert_each(
     print!(rt; "inserted")?;
     print_graph(rt, g)?;
     g = insert_one(rt, even, g, file::part_of(file, 0))?;
-    // One back insertion too many: the graph is not sound. Written in each program that tries one: a function is longer.
+    // One back insertion too many: the graph is not sound. In each program that tries one: a function is longer.
     g.backs = g.backs.wrapping_add(1);
     insert_one(rt, even, g, file::part_of(file, 0))?;
     Ok(())

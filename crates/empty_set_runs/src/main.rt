@@ -35,9 +35,9 @@ fn insert_one(rt: &impl Print, g: CircuitDag, part: &[u8]) -> io::Result<Circuit
     Ok(x.graph)
 }
 
-// The file's records, one after the other, by their numbers: both_ends_runs has such a loop too, and says why. What it
-// inserts in two ways and prints of it alone is different, so that one for both would take the insertion as a closure,
-// for which a public function would need a `requires`.
+// The file's records, one after the other, by their numbers: both_ends_runs has such a loop too, and says why. There an
+// insertion has a way, and a refusal alone is printed: one loop for both would take the insertion as a closure, for
+// which a public function would need a `requires`.
 fn insert_each(rt: &impl Print, file: &[u8]) -> io::Result<CircuitDag> {
     let mut g = CircuitDag::new();
     for i in 0..file::record_count(file) {
@@ -51,7 +51,7 @@ fn print_file(rt: &impl Print, file: &[u8]) -> io::Result<()> {
     print_loaded(rt, "load", insertion::load(file))?;
     print_loaded(rt, "from_circuit", insertion::from_circuit(file))?;
     let mut g = insert_each(rt, file)?;
-    // One back insertion too many: the graph is not sound. Written in each program that tries one: a function is longer.
+    // One back insertion too many: the graph is not sound. In each program that tries one: a function is longer.
     g.backs = g.backs.wrapping_add(1);
     insert_one(rt, g, file::part_of(file, 0))?;
     Ok(())

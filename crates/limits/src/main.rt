@@ -8,8 +8,8 @@ use graph::CircuitDag;
 use std::{array, io};
 use writing::Gate;
 
-// The masks of a file's gates: of qubit 0 alone, or in layers of 8, where each gate has one qubit from every gate of the
-// layer before.
+// The masks of a file's gates: of qubit 0 alone, or in layers of 8, where each gate has one qubit from every gate of
+// the layer before.
 #[derive(Clone, Copy)]
 enum Pattern {
     Plain,

@@ -113,8 +113,8 @@ fn print_node(rt: &impl Print, g: CircuitDag, v: NodeIndex) -> io::Result<()> {
     })
 }
 
-// Each node's kind, qubit form and label, then its queries. By number, since what a node keeps stands in columns. The cast
-// keeps the value: v is below 512.
+// Each node's kind, qubit form and label, then its queries. By number, since what a node keeps stands in columns. The
+// cast keeps the value: v is below 512.
 fn print_nodes(rt: &impl Print, g: CircuitDag) -> io::Result<()> {
     for v in 0..g.nodes.count.min(512) {
         let nodes = &g.nodes;

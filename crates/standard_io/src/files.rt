@@ -4,8 +4,8 @@ ghost use Rattle.standard_io.specs.Files.{files_of};
 
 // What is left of the input: it yields the files one after the other. Where the input ends before a file does, that file
 // is left out and nothing follows. Each program has the loop over them in its `main`: one for all would take a closure,
-// for which a public function would need a `requires`, or a trait's method, and an impl of that for each program would
-// be as many lines as its `main`.
+// for which a public function would need a `requires`, or a trait's method, whose impl for each program would be as many
+// lines as its `main`.
 #[derive(Clone, Copy, Drop)]
 pub struct Files<'a>(pub &'a [u8]);
 

@@ -151,7 +151,7 @@ fn probe_load(rt: &impl Print, bytes: &[u8]) -> io::Result<()> {
     }
     // A graph's count is at most 512.
     probe(rt, g, u16::try_from(g.nodes.count).unwrap_or(65535))?;
-    // Written in each program that tries such a graph: a function is longer.
+    // In each program that tries such a graph: a function is longer.
     g.backs = g.backs.wrapping_add(1);
     println!(rt; "not sound")?;
     probe(rt, g, 0)
