@@ -30,11 +30,11 @@ pub(crate) fn check_node(g: CircuitDag, v: NodeIndex) -> Result<Node, Refusal>
 }
 
 impl Node {
-    // The marks with the node's own as told.
-    pub(crate) fn marked(self, mut marks: [bool; 512], mark: bool) -> [bool; 512]
-        ensures { result ≡ set marks self.v.0 mark }
+    // The marks with the node's own.
+    pub(crate) fn marked(self, mut marks: [bool; 512]) -> [bool; 512]
+        ensures { result ≡ set marks self.v.0 true }
     {
-        marks[usize::from(self.v.0)] = mark;
+        marks[usize::from(self.v.0)] = true;
         marks
     }
 }

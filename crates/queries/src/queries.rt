@@ -33,7 +33,7 @@ fn listed(list: &[u16]) -> [bool; 512]
 fn neighbours_of(v: Node, arcs: &Arcs) -> [bool; 512]
     ensures { Reaching arcs.now.far.now arcs.now.near.now arcs.now.count (set no_node v.v.0 true) result }
 {
-    arcs.reached(&v.marked([false; 512], true))
+    arcs.reached(&v.marked([false; 512]))
 }
 
 // A marked far end marks the near end, with no branch. Did the mark come new?
@@ -153,7 +153,7 @@ fn index_in(list: &[u16], v: NodeIndex) -> Option<usize>
 fn ancestors(arcs: &Arcs, v: Node) -> [bool; 512]
     ensures { Closed arcs.now.near.now arcs.now.far.now arcs.now.count (set no_node v.v.0 true) result }
 {
-    let mut mark = v.marked([false; 512], true);
+    let mut mark = v.marked([false; 512]);
     if is_ordered(arcs) {
         let k = leads_above(first_ends(arcs.far, arcs.count), v.v);
         settle(&mut mark, arcs, k);
@@ -199,7 +199,7 @@ pub fn execution_blocked(
     let node = check_node(g, v)?;
     let kept = Kept {
         mark: &ancestors(&Arcs::against(&g), node),
-        skip: &node.marked(listed(executed), true),
+        skip: &node.marked(listed(executed)),
         n: g.nodes.count,
     };
     kept.answer(buffer)
@@ -270,7 +270,7 @@ pub fn new_front_layer(
     }
     let freed = Kept {
         mark: &next,
-        skip: &waiting(&node.marked(listed(executed), true), &arcs),
+        skip: &waiting(&node.marked(listed(executed)), &arcs),
         n,
     };
     freed.answer_layer(layer, i, buffer)
