@@ -46,33 +46,26 @@ impl<'a> Arcs<'a> {
         }
     }
 
-    // The node that arc i leads to.
-    pub(crate) fn near_end(&self, i: usize) -> usize
+    // The nodes that arc i leads to and from.
+    pub(crate) fn ends(&self, i: usize) -> (usize, usize)
         requires { i < self.now.count }
-        ensures value { result ≡ get_or self.now.near.now i 0 }
-        ensures low { result < 512 }
+        ensures near { result.0 ≡ get_or self.now.near.now i 0 }
+        ensures far { result.1 ≡ get_or self.now.far.now i 0 }
+        ensures low { (result.0 < 512) × (result.1 < 512) }
     {
-        usize::from(self.near[i])
+        (usize::from(self.near[i]), usize::from(self.far[i]))
     }
 
-    // The node that it leads from.
-    pub(crate) fn far_end(&self, i: usize) -> usize
-        requires { i < self.now.count }
-        ensures value { result ≡ get_or self.now.far.now i 0 }
-        ensures low { result < 512 }
-    {
-        usize::from(self.far[i])
-    }
-
-    // The near ends of the arcs whose far end is chosen. By the arc's number, like all passes over arcs: near_end and
-    // far_end say of a number that the ends are below 512, which of the items of a zip each pass would have to show, and
-    // a pass down needs the number.
+    // The near ends of the arcs whose far end is chosen. By the arc's number, like all passes over arcs: `ends` says
+    // of a number that the ends are below 512, which of the items of a zip each pass would have to show, and a pass down
+    // needs the number.
     pub fn reached(&self, chosen: &[bool; 512]) -> [bool; 512]
         ensures { Reaching self.now.far.now self.now.near.now self.now.count chosen.now result }
     {
         let mut found = [false; 512];
         for i in 0..self.count {
-            found[self.near_end(i)] |= chosen[self.far_end(i)];
+            let (near, far) = self.ends(i);
+            found[near] |= chosen[far];
         }
         found
     }

@@ -41,10 +41,10 @@ fn carry(mark: &mut [bool; 512], arcs: &Arcs, i: usize) -> bool
     requires { i < arcs.now.count }
     ensures { Carried arcs.now.near.now arcs.now.far.now i mark.old mark.new result }
 {
-    let a = arcs.near_end(i);
-    let old = mark[a];
-    let new = mark[arcs.far_end(i)];
-    mark[a] = old | new;
+    let (near, far) = arcs.ends(i);
+    let old = mark[near];
+    let new = mark[far];
+    mark[near] = old | new;
     new & !old
 }
 
@@ -123,7 +123,8 @@ fn settle(mark: &mut [bool; 512], arcs: &Arcs, k: usize)
     ensures { Closed arcs.now.near.now arcs.now.far.now k mark.old mark.new }
 {
     for i in (0..k).rev() {
-        mark[arcs.near_end(i)] |= mark[arcs.far_end(i)];
+        let (near, far) = arcs.ends(i);
+        mark[near] |= mark[far];
     }
 }
 

@@ -5,4 +5,4 @@ pub loop-i-init : goal.loop-i-init
 loop-i-init c = settles_none _ _ _ _ (ends_fewer _ _ _ _ c.requires.0 c.args.arcs.now.below) c.requires.1 c.told-mark
 
 pub loop-i-preserved : goal.loop-i-preserved
-loop-i-preserved c = settles_one _ _ _ _ _ _ c.loop-i.invariant c.loop-i-test.true _ _ c.near_end.ensures.value c.far_end.ensures.value
+loop-i-preserved c = settles_one _ _ _ _ _ _ c.loop-i.invariant c.loop-i-test.true _ _ c.ends-near.ensures.near c.ends-near.ensures.far

@@ -5,4 +5,4 @@ pub loop-i-init : goal.loop-i-init
 loop-i-init c = marking_begin _ _ _ _ c.args.self.now.below
 
 pub loop-i-preserved : goal.loop-i-preserved
-loop-i-preserved c = marking_more _ _ _ _ c.loop-i.invariant c.loop-i-test.true c.far_end.ensures.value c.near_end.ensures.value
+loop-i-preserved c = marking_more _ _ _ _ c.loop-i.invariant c.loop-i-test.true c.ends-near.ensures.far c.ends-near.ensures.near
