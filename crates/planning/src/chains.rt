@@ -78,8 +78,7 @@ pub fn chain(dag: CircuitDag, buffer: &mut [u16]) -> Result<usize, Refusal>
     if count == 0 {
         return Ok(0);
     }
-    // A literal: a function that makes it for every crate would ask that the graph is sound, and a public one asks
-    // nothing: made total, it would test once more what the walk has tested.
+    // A literal: `Arcs::along` would test the graph's soundness once more, which the walk has tested.
     let arcs = Arcs {
         near: &dag.edges.from,
         far: &dag.edges.to,

@@ -7,21 +7,21 @@ use mathlib.Core.List.{List, [], ◌∷◌}
 use Prim.Native.Nat.{ℕ, zero, suc, ◌+◌, ◌-◌, ◌≤◌, ◌<◌}
 use native.Mathlib.Omega.{arith}
 use native.Mathlib.Decide.{ℕ_discrete}
-use lib.Dec.{eqb, ltb}
+use lib.Dec.{eqb, ltb, leb}
 use lib.IntN.{ℤ, pos, negsuc}
 use lib.Signed.{lt_z}
 use lib.ListN.{get_or, set}
-use borrow.Author.Tests.{ltb-true, lt-ltb, eqb-true, eq-eqb, ne_eqb, not-true as not-flip}
+use borrow.Author.Tests.{ltb-true, leb-true, lt-ltb, eqb-true, eq-eqb, ne_eqb, not-true as not-flip}
 use Rattle.file.specs.Lists.{any_of, all_of, keep, count_from, up_to, member, is_empty}
 use Rattle.graph.specs.declared.CircuitDag.{CircuitDag}
 use Rattle.graph.specs.Dag.{Edge, edge, edge_at, size, edges_of, has_edge, same_edge, place_of}
-use Rattle.graph.specs.Soundness.{ascends, place_within}
+use Rattle.graph.specs.Soundness.{sound, ascends, place_within}
 use Rattle.queries.specs.Reach.{Reached, along, onward, reached_by, reached, blocking, Blocks, BlockingList, predecessors_of, successors_of, Reaching}
 use Rattle.queries.specs.Queries.{freed}
 use Rattle.queries.specs.Marks.{no_node, kept, Listed, EndsBelow, Closed, Waiting}
 use Rattle.file.proofs.BoolLaws.{bool_cases, clash_bool, bool_ext, and_l, and_r, and_intro, or_cases, or_inl, or_inr, flip-not, eqb_same}
-use Rattle.graph.proofs.ListLaws.{any_here, any-later, any_at, at-any, all_here, all_at, keep-any, up_to-any, any-up_to}
-use Rattle.graph.proofs.SoundnessLaws.{Sound}
+use Rattle.graph.proofs.ListLaws.{any_here, any-later, any_at, at-any, all_here, all_at, keep-any, up_to-any, any-up_to, all_up_to}
+use Rattle.graph.proofs.SoundnessLaws.{Sound, and4, and5, edge_below, sound_clauses}
 use Rattle.queries.proofs.MarkLaws.{none_marked, only_marked, member_cons}
 
 -- ---- an edge by its index
@@ -321,24 +321,30 @@ freed_ascend g executed v = ap ascends (keep-keep (λ w. has_edge g v w) (λ w. 
 
 -- ---- marks
 
+-- the ends of a sound graph's edges are nodes: no array's length is asked for, which is not known behind a reference
+module _ (g : CircuitDag) (h : sound g ≡ true) where
+  few : (size g ≤ 512) × (g.edges.count ≤ 2048)
+  few =
+      let n = and5 (leb (size g) 512) (leb g.edges.count 2048) (leb g.first_registers.count 256) (leb g.last_registers.count 256) (leb g.commuting.count 512) (sound_clauses g h).counts in
+      (leb-true (size g) 512 n.0, leb-true g.edges.count 2048 n.1)
+
+  edge_nodes : (i : ℕ) → i < g.edges.count → (F g i < 512) × (T g i < 512)
+  edge_nodes i l =
+      let b = all_up_to (edge_below g) (edge_at g.edges) g.edges.count (and4 _ _ _ _ (sound_clauses g h).numbers).0 i l in (
+        omega (arith, few.0, ltb-true (F g i) (size g) (and_l (ltb (F g i) (size g)) (ltb (T g i) (size g)) b)),
+        omega (arith, few.0, ltb-true (T g i) (size g) (and_r (ltb (F g i) (size g)) (ltb (T g i) (size g)) b)),
+      )
+
+  -- the edges against their direction, and along it
+  pub ends_back : EndsBelow g.edges.from g.edges.to g.edges.count
+  ends_back = record { count = few.1; near_below = λ i l. (edge_nodes i l).0; far_below = λ i l. (edge_nodes i l).1 }
+
+  pub ends_on : EndsBelow g.edges.to g.edges.from g.edges.count
+  ends_on = record { count = few.1; near_below = λ i l. (edge_nodes i l).1; far_below = λ i l. (edge_nodes i l).0 }
+
 module _ (g : CircuitDag) (S : Sound g) where
   abbrev m : ℕ
   m = g.edges.count
-
-  -- the edges against their direction, and along it
-  pub ends_back : EndsBelow g.edges.from g.edges.to m
-  ends_back = record {
-    count = S.edge_count;
-    near_below = λ i l. omega (arith, S.from-below i l, S.node-count);
-    far_below = λ i l. omega (arith, S.to_below i l, S.node-count);
-  }
-
-  pub ends_on : EndsBelow g.edges.to g.edges.from m
-  ends_on = record {
-    count = S.edge_count;
-    near_below = λ i l. omega (arith, S.to_below i l, S.node-count);
-    far_below = λ i l. omega (arith, S.from-below i l, S.node-count);
-  }
 
   module _ (v : ℕ) (low : v < size g) where
     -- marks from v against the edges: v and its ancestors

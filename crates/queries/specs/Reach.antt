@@ -3,7 +3,7 @@ use Rattle.std.specs.Prelude.{◌≡◌, Bool, true, false, not, ◌&&◌, List,
 use Rattle.file.specs.Lists.{any_of, keep, member, up_to}
 use Rattle.graph.specs.declared.CircuitDag.{CircuitDag}
 use Rattle.graph.specs.Dag.{Edge, size, edges_of, has_edge}
-use Rattle.graph.specs.Soundness.{ascends}
+use Rattle.graph.specs.Soundness.{sound, ascends}
 
 -- "from which it is reached": along one edge, or along one edge and on from where it leads
 pub data Reached (g : CircuitDag) : ℕ → ℕ → Type 0 where
@@ -42,6 +42,10 @@ pub record Reaching (from to : List ℕ) (m : ℕ) (chosen found : List Bool) : 
   pub long : length found ≡ 512
   pub hit : (j : ℕ) → j < m → get_or chosen (get_or from j 0) false ≡ true → get_or found (get_or to j 0) false ≡ true
   pub only : (v : ℕ) → get_or found v false ≡ true → (j : ℕ) × (j < m) × (get_or to j 0 ≡ v) × (get_or chosen (get_or from j 0) false ≡ true)
+
+-- the arcs of a sound graph, along its edges: near ends, far ends and how many
+abbrev pub Along : CircuitDag → List ℕ → List ℕ → ℕ → Type 0
+Along g near far count = (sound g ≡ true) × (near ≡ g.edges.to) × (far ≡ g.edges.from) × (count ≡ g.edges.count)
 
 -- "direct neighbours, ascending"
 abbrev pub predecessors_of : CircuitDag → ℕ → List ℕ

@@ -1,7 +1,8 @@
 // The edges of a graph as arcs, to be gone over in either direction.
 ghost use Rattle.queries.specs.Marks.{EndsBelow};
 
-use graph::CircuitDag;
+use file::Refusal;
+use graph::{CircuitDag, check_sound};
 
 // Arc i leads from node far[i] to node near[i], both below 512: along the edges, or against them. The arrays are the
 // graph's, of which the first count entries stand.
@@ -14,35 +15,34 @@ pub struct Arcs<'a> {
 }
 
 impl<'a> Arcs<'a> {
-    ghost use Rattle.std.specs.Prelude.{◌≡◌, ◌<◌, get_or};
-    ghost use Rattle.queries.specs.Reach.{Reaching};
+    ghost use Rattle.std.specs.Prelude.{◌≡◌, ◌<◌, get_or, MatchResult, OnOk, Err};
+    ghost use Rattle.graph.specs.Soundness.{check_sound, Counts};
+    ghost use Rattle.queries.specs.Reach.{Reaching, Along};
 
-    // The arcs that lead as a graph's edges do.
-    pub(crate) fn along(g: &'a CircuitDag) -> Arcs<'a>
-        requires { EndsBelow g.now.edges.to g.now.edges.from g.now.edges.count }
-        ensures near { result.near.now ≡ g.now.edges.to }
-        ensures far { result.far.now ≡ g.now.edges.from }
-        ensures count { result.count ≡ g.now.edges.count }
+    // The arcs that lead as a graph's edges do: 11 where the graph isn't sound, as an end may then be no node.
+    pub fn along(g: &'a CircuitDag) -> Result<Arcs<'a>, Refusal>
+        ensures value { MatchResult result (λ arcs. Along g.now arcs.near.now arcs.far.now arcs.count)
+            (λ cause. check_sound g.now ≡ Err cause) }
+        ensures counts { OnOk result (Counts g.now) }
     {
-        Arcs {
+        check_sound(*g)?;
+        Ok(Arcs {
             near: &g.edges.to,
             far: &g.edges.from,
             count: g.edges.count,
-        }
+        })
     }
 
-    // The arcs that lead against them. Two functions each, here and for the ends below: they differ in a field, which
-    // no parameter can name.
-    pub(crate) fn against(g: &'a CircuitDag) -> Arcs<'a>
-        requires { EndsBelow g.now.edges.from g.now.edges.to g.now.edges.count }
-        ensures near { result.near.now ≡ g.now.edges.from }
-        ensures far { result.far.now ≡ g.now.edges.to }
-        ensures count { result.count ≡ g.now.edges.count }
+    // The arcs that lead the other way.
+    pub fn reversed(self) -> Arcs<'a>
+        ensures near { result.near.now ≡ self.entry.far.now }
+        ensures far { result.far.now ≡ self.entry.near.now }
+        ensures count { result.count ≡ self.entry.count }
     {
         Arcs {
-            near: &g.edges.from,
-            far: &g.edges.to,
-            count: g.edges.count,
+            near: self.far,
+            far: self.near,
+            count: self.count,
         }
     }
 
@@ -56,8 +56,8 @@ impl<'a> Arcs<'a> {
         (usize::from(self.near[i]), usize::from(self.far[i]))
     }
 
-    // The near ends of the arcs whose far end is chosen. By the arc's number, like all passes over arcs: `ends` says
-    // of a number that the ends are below 512, which of the items of a zip each pass would have to show, and a pass down
+    // The near ends of the arcs whose far end is chosen. By the arc's number, like all passes over arcs: `ends` says of
+    // a number that the ends are below 512, which of the items of a zip each pass would have to show, and a pass down
     // needs the number.
     pub fn reached(&self, chosen: &[bool; 512]) -> [bool; 512]
         ensures { Reaching self.now.far.now self.now.near.now self.now.count chosen.now result }

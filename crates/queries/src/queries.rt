@@ -197,9 +197,9 @@ pub fn execution_blocked(
     ensures { record { answer = result; buffer = buffer.new }
         ≡ execution_blocked g executed.now v.0 buffer.old }
 {
-    let node = check_node(g, v)?;
+    let (node, arcs) = check_node(&g, v)?;
     let kept = Kept {
-        mark: &ancestors(&Arcs::against(&g), node),
+        mark: &ancestors(&arcs.reversed(), node),
         skip: &node.marked(listed(executed)),
         n: g.nodes.count,
     };
@@ -217,9 +217,9 @@ pub fn blocking_predecessors(
     ensures { record { answer = result; buffer = buffer.new }
         ≡ blocking_predecessors g executed.now v.0 buffer.old }
 {
-    let node = check_node(g, v)?;
+    let (node, arcs) = check_node(&g, v)?;
     let kept = Kept {
-        mark: &neighbours_of(node, &Arcs::against(&g)),
+        mark: &neighbours_of(node, &arcs.reversed()),
         skip: &listed(executed),
         n: g.nodes.count,
     };
@@ -231,9 +231,9 @@ pub fn blocking_predecessors(
 pub fn successors(g: CircuitDag, v: NodeIndex, buffer: &mut [u16]) -> Result<usize, Refusal>
     ensures { record { answer = result; buffer = buffer.new } ≡ successors_rule g v.0 buffer.old }
 {
-    let node = check_node(g, v)?;
+    let (node, arcs) = check_node(&g, v)?;
     let kept = Kept {
-        mark: &neighbours_of(node, &Arcs::along(&g)),
+        mark: &neighbours_of(node, &arcs),
         skip: &no_marks(),
         n: g.nodes.count,
     };
@@ -253,11 +253,10 @@ pub fn new_front_layer(
     ensures { record { answer = result; buffer = buffer.new }
         ≡ new_front_layer g executed.now layer.now v.0 buffer.old }
 {
-    let node = check_node(g, v)?;
+    let (node, arcs) = check_node(&g, v)?;
     let Some(i) = index_in(layer, v) else {
         return Err(Refusal::NotInLayer);
     };
-    let arcs = Arcs::along(&g);
     let next = neighbours_of(node, &arcs);
     let n = g.nodes.count;
     let all = Kept {

@@ -3,14 +3,14 @@
 ghost use Rattle.std.specs.Prelude.{◌≡◌, true, false, cond, not, ◌&&◌, ◌||◌, map, ℕ, ◌+◌, ◌-◌, ◌≤◌, ◌<◌, max, eqb, length};
 ghost use Rattle.file.specs.Lists.{members, onto, up_to};
 ghost use Rattle.graph.specs.Dag.{size};
-ghost use Rattle.graph.specs.Soundness.{sound};
-ghost use Rattle.queries.specs.Marks.{in_turn, EndsBelow};
+ghost use Rattle.queries.specs.Marks.{in_turn};
+ghost use Rattle.queries.specs.Reach.{Along};
 ghost use Rattle.walk.specs.Blocks.{whole_walk, blocks, number_from, joined, start, next};
 ghost use Rattle.walk.specs.Numbering.{at, following, Swept, Settled, Begun, Zeroed, Counted, Freed, free_after};
 
 use crate::ParallelBlocks;
 use file::Refusal;
-use graph::{CircuitDag, check_sound};
+use graph::CircuitDag;
 use queries::{Arcs, answer_marked};
 use std::array;
 
@@ -96,30 +96,14 @@ fn count_blocks(num: &[u16]) -> usize
         .unwrap_or(0)
 }
 
-// The arcs that lead as a graph's edges do. The queries have the same function for themselves: it asks for ends that
-// are nodes, and a public one asks nothing: made total, it would test once more what the caller has tested.
-fn along(g: &CircuitDag) -> Arcs<'_>
-    requires { EndsBelow g.now.edges.to g.now.edges.from g.now.edges.count }
-    ensures near { result.near.now ≡ g.now.edges.to }
-    ensures far { result.far.now ≡ g.now.edges.from }
-    ensures count { result.count ≡ g.now.edges.count }
-{
-    Arcs {
-        near: &g.edges.to,
-        far: &g.edges.from,
-        count: g.edges.count,
-    }
-}
-
 // Each node's block number, 65535 where no block holds it.
-fn numbers_of(g: CircuitDag) -> [u16; 512]
-    requires { sound g ≡ true }
+fn numbers_of(g: CircuitDag, arcs: &Arcs) -> [u16; 512]
+    requires { Along g arcs.now.near.now arcs.now.far.now arcs.now.count }
     ensures { (v : ℕ) → v < size g → at result v ≡ number_from 0 (blocks g) v }
 {
-    let arcs = along(&g);
     let mut num = first_numbers(&g.first.block);
     number_targets(&g.edges.to[..g.edges.count], &mut num);
-    settle(&arcs, g.nodes.count, g.fronts == 0, &mut num);
+    settle(arcs, g.nodes.count, g.fronts == 0, &mut num);
     num
 }
 
@@ -127,12 +111,12 @@ fn numbers_of(g: CircuitDag) -> [u16; 512]
 pub fn whole_walk(g: CircuitDag, buffer: &mut [u16]) -> Result<usize, Refusal>
     ensures { record { answer = result; buffer = buffer.new } ≡ whole_walk g buffer.old }
 {
-    check_sound(g)?;
+    let arcs = Arcs::along(&g)?;
     let n = g.nodes.count;
     if buffer.len() < n {
         return Err(Refusal::ShortBuffer);
     }
-    let num = numbers_of(g);
+    let num = numbers_of(g, &arcs);
     let num = &num[..n];
     buffer[..n].copy_from_slice(num);
     Ok(count_blocks(num))
@@ -156,15 +140,14 @@ fn take_waiting(arcs: &Arcs, num: &[u16; 512], found: &mut [bool; 512])
 }
 
 // The successors of the current nodes that are blocked by none.
-fn free_block(g: CircuitDag, current: &[bool; 512], all: &[bool; 512]) -> [bool; 512]
-    requires { sound g ≡ true }
+fn free_block(g: CircuitDag, arcs: &Arcs, current: &[bool; 512], all: &[bool; 512]) -> [bool; 512]
+    requires { Along g arcs.now.near.now arcs.now.far.now arcs.now.count }
     ensures { members result ≡ free_after g current.now all.now }
 {
-    let arcs = along(&g);
     let mut num = first_numbers(all);
-    settle(&arcs, g.nodes.count, g.fronts == 0, &mut num);
+    settle(arcs, g.nodes.count, g.fronts == 0, &mut num);
     let mut found = arcs.reached(current);
-    take_waiting(&arcs, &num, &mut found);
+    take_waiting(arcs, &num, &mut found);
     found
 }
 
@@ -185,14 +168,14 @@ impl ParallelBlocks {
         ensures { record { answer = result; walk = self.new; buffer = buffer.new }
             ≡ next g self.old buffer.old }
     {
-        check_sound(g)?;
+        let arcs = Arcs::along(&g)?;
         if !graph::members_below(self.current, g.nodes.count) {
             return Err(Refusal::Absent);
         }
         let started = graph::has_member(self.current) | graph::has_member(self.executed);
         let all = join_marks(&self.current, &self.executed);
         let found = if started {
-            free_block(g, &self.current, &all)
+            free_block(g, &arcs, &self.current, &all)
         } else {
             g.first.block
         };

@@ -2,8 +2,6 @@ use Rattle.std.proofs.Common.{◌≡◌, refl, sym, length, arith, rules}
 use Rattle.std.proofs.lemmas.Result.{err_from_is_err_and}
 use Rattle.graph.specs.Dag.{size}
 use Rattle.std.proofs.lemmas.List.{length-take, length-take-le}
-use Rattle.graph.proofs.SizeLaws.{dag_sized}
-use Rattle.graph.proofs.SoundnessLaws.{sound_told}
 use Rattle.queries.proofs.ReachLaws.{ends_back}
 use Rattle.walk.proofs.BlockLaws.{W}
 use Rattle.planning.proofs.DescentLaws.{walk_told, walk_refused, chain_short, chain-none, chain-done, smallest_first}
@@ -32,8 +30,7 @@ smallest_member-v-requires c =
 pub invariant_of-arcs : goal.invariant_of-arcs
 invariant_of-arcs c =
     let t = walk_told _ _ _ _ c.in_ok-count.was c.whole_walk.ensures in
-    let g = c.args.dag in
-    record { below = ends_back g (sound_told g (dag_sized g _ c.well_formed.0).commuting.list t.sound) }
+    record { below = ends_back c.args.dag t.sound }
 
 pub returns : goal.returns
 returns c =

@@ -10,14 +10,14 @@ pub returns-in_err-node : goal.returns-in_err-node
 unfolding execution_blocked
 returns-in_err-node c =
     let p = err_from_is_err_and c.from_residual.result c.from_residual.ensures.1 in
-    rw (p.1, p.2) (not-asked _ _ _ _ _ c.in_err-node.ensures.value)
+    rw (p.1, p.2) (not-asked _ _ _ _ _ c.in_err-node.ensures)
 
 pub returns : goal.returns
 returns c =
     let a = c.args in
-    let n = c.in_ok-node.ensures.value in
-    let s = sound_told a.g (dag_sized a.g _ c.well_formed.0).commuting.list n.1 in
-    let e = c.against.ensures in
-    blocked_answers a.g s n.1 a.v.0 n.2 a.buffer.now _ c.ancestors.result c.marked.result a.executed.now
-    (rw (e.near, e.far, e.count, n.0) at c.ancestors.ensures)
-    (rw (c.marked.ensures, ← n.0) (lists_with _ _ _ c.listed.ensures c.in_ok-node.node.low)) c.answer.ensures
+    let n = c.in_ok-node.ensures in
+    let s = sound_told a.g (dag_sized a.g _ c.well_formed.0).commuting.list n.0.0 in
+    let e = c.reversed.ensures in
+    blocked_answers a.g s n.0.0 a.v.0 n.2 a.buffer.now _ c.ancestors.result c.marked.result a.executed.now
+    (rw (e.near, e.far, e.count, n.0.1, n.0.2, n.0.3, n.1) at c.ancestors.ensures)
+    (rw (c.marked.ensures, ← n.1) (lists_with _ _ _ c.listed.ensures c.in_ok-node.node.low)) c.answer.ensures

@@ -10,14 +10,13 @@ pub returns-in_err-node : goal.returns-in_err-node
 unfolding successors
 returns-in_err-node c =
     let p = err_from_is_err_and c.from_residual.result c.from_residual.ensures.1 in
-    rw (p.1, p.2) (not-asked _ _ _ _ _ c.in_err-node.ensures.value)
+    rw (p.1, p.2) (not-asked _ _ _ _ _ c.in_err-node.ensures)
 
 pub returns : goal.returns
 unfolding no_node
 returns c =
     let a = c.args in
-    let n = c.in_ok-node.ensures.value in
-    let s = sound_told a.g (dag_sized a.g _ c.well_formed.0).commuting.list n.1 in
-    let e = c.along.ensures in
-    successors-answers a.g s n.1 a.v.0 n.2 a.buffer.now _ c.neighbours_of.result c.no_marks.result
-    (rw (e.near, e.far, e.count, n.0) at c.neighbours_of.ensures) c.no_marks.ensures c.answer.ensures
+    let n = c.in_ok-node.ensures in
+    let s = sound_told a.g (dag_sized a.g _ c.well_formed.0).commuting.list n.0.0 in
+    successors-answers a.g s n.0.0 a.v.0 n.2 a.buffer.now _ c.neighbours_of.result c.no_marks.result
+    (rw (n.0.1, n.0.2, n.0.3, n.1) at c.neighbours_of.ensures) c.no_marks.ensures c.answer.ensures
