@@ -4,8 +4,9 @@ ghost use Rattle.queries.specs.Marks.{EndsBelow};
 use file::Refusal;
 use graph::{CircuitDag, check_sound};
 
-// Arc i leads from node far[i] to node near[i], both below 512: along the edges, or against them. The arrays are the
-// graph's, of which the first count entries stand.
+// Arc i leads from node far[i] to node near[i], both below 512: along the edges, or against them. The graph's arrays
+// with its count, as the graph has them: the definitions of the passes (Swept, Reaching, Closed) speak of arrays and a
+// count, so that slices cut to it would have to be set against the graph's arrays again in the laws of every query.
 #[derive(Clone, Copy)]
 pub struct Arcs<'a> {
     pub near: &'a [u16; 2048],
