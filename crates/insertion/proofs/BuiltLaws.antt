@@ -297,7 +297,7 @@ module _ (rule : FarRule) (i : ℕ) (g : CircuitDag) (s : List ℕ) where
       (λ r c e. never_unsound rule g s i r c cc)
       (λ t e. let z : ◌≡◌ {A = ℕ} 0 1 = cc in omega arith)
 
-pub insert-sound : (rule : LoadingRule) (g : CircuitDag) (s : List ℕ) → sound g ≡ true → insert_by rule g s ≡ insert_as (rule_of rule) 0 g s
+insert-sound : (rule : LoadingRule) (g : CircuitDag) (s : List ℕ) → sound g ≡ true → insert_by rule g s ≡ insert_as (rule_of rule) 0 g s
 unfolding insert_by
 insert-sound rule g s h = rw h refl
 
