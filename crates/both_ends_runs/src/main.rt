@@ -112,8 +112,7 @@ fn print_file(rt: &impl Print, file: &[u8]) -> io::Result<()> {
 
 fn main(rt: HostRuntime) -> io::Result<()> {
     let mut input = [0; 65536];
-    let n = standard_io::read_file(&rt, &mut input);
-    for file in Files(&input[..n]) {
+    for file in Files(standard_io::read_file(&rt, &mut input)) {
         print_file(&rt, file)?;
     }
     Ok(())

@@ -133,8 +133,7 @@ fn probe_file(rt: &impl Print, bytes: &[u8]) -> io::Result<()> {
 
 fn main(rt: HostRuntime) -> io::Result<()> {
     let mut input = [0; 65536];
-    let n = standard_io::read_file(&rt, &mut input);
-    for file in Files(&input[..n]) {
+    for file in Files(standard_io::read_file(&rt, &mut input)) {
         probe_file(&rt, file)?;
     }
     Ok(())

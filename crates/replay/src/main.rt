@@ -273,8 +273,7 @@ fn replay_item(rt: &impl Print, item: &[u8]) -> io::Result<()> {
 // as it goes.
 fn main(rt: HostRuntime) -> io::Result<()> {
     let mut input = [0; 65536];
-    let n = standard_io::read_file(&rt, &mut input);
-    let mut rest = &input[..n];
+    let mut rest = standard_io::read_file(&rt, &mut input);
     while let [low, high, items @ ..] = rest {
         let size = u16::from_le_bytes([*low, *high]);
         let (item, after) = cut(items, usize::from(size));

@@ -6,8 +6,8 @@ use file::Refusal;
 use std::fmt;
 
 // A buffer, of which the first nine entries are shown, as many as the longest answer has.
-// The loop over numbers stands in replay, file_runs and writing_runs too. A type that shows a list of any numbers would
-// stand here: the last two stand on the file's crates alone, and would wait for the graph's to save two lines each.
+// The loop over numbers stands in replay, file_runs and writing_runs too, of three lines each: a type that shows a list of
+// any numbers would be longer, with its impl, its clause and an edit of its own.
 #[derive(Clone, Copy)]
 pub struct Entries<'a>(pub &'a [u16]);
 

@@ -2,7 +2,7 @@
 // program that is run on an input runs this one.
 #![tactic(auto)]
 
-ghost use Rattle.std.specs.Prelude.{◌≤◌};
+ghost use Rattle.std.specs.Prelude.{◌≤◌, length};
 ghost use Rattle.standard_io.specs.Printing.{Printed, PrintedBy};
 
 mod entries;
@@ -14,11 +14,10 @@ use links::LoadingRule;
 use report::Text;
 use std::io::Read;
 
-// Standard input's first 65,536 bytes, or all where they are fewer; how many there are. A read that fails ends the input.
+// Standard input's first 65,536 bytes, or all where they are fewer, in the lent array. A read that fails ends the input.
 // A loop, since std's whole reads want a heap or say too little after a failure; it counts what each read gave.
-// The count and no slice, as every call here answers that fills a lent buffer: a slice would save each caller one cut.
-pub fn read_file(rt: &impl Input, file: &mut [u8; 65536]) -> usize
-    ensures { result ≤ 65536 }
+pub fn read_file<'a>(rt: &impl Input, file: &'a mut [u8; 65536]) -> &'a [u8]
+    ensures { length result.now ≤ 65536 }
 {
     let mut input = rt.reader();
     let mut n: usize = 0;
@@ -29,7 +28,7 @@ pub fn read_file(rt: &impl Input, file: &mut [u8; 65536]) -> usize
         }
         n += read;
     }
-    n
+    &file[..n]
 }
 
 // A circuit file on standard input, of which the first 65,536 bytes count, loaded in either way; its blocks, or its refusal, on standard
@@ -38,8 +37,7 @@ pub fn print_blocks_by(rt: &(impl Input + Print), rule: LoadingRule) -> Text
     ensures { PrintedBy rule result }
 {
     let mut file = [0; 65536];
-    let n = read_file(rt, &mut file);
-    let text = report::blocks_text_by(rule, &file[..n]);
+    let text = report::blocks_text_by(rule, read_file(rt, &mut file));
     let _ = rt.write_all(text.as_bytes());
     text
 }
