@@ -85,43 +85,54 @@ fn definition(length: u16) -> [u8; 23] {
     file
 }
 
-// A file of a definition of name 1 and a list of c keys of that name, from index `first` on: each is written from its number.
-fn measured(length: u16, first: u16, c: u8) -> [u8; 117]
-    requires { (first ≤ 256) × (c ≤ 25) }
-{
-    let mut file = [0; 117];
-    file[0] = 2;
-    file[2] = 10;
-    file[4] = 17;
-    file[6] = 27;
-    file[8] = 15 + 3 * c;
-    file[11] = 1;
-    file[21] = 4;
-    file[24] = 1;
-    writing::put_u16(&mut file, 25, length);
-    file[38] = 3;
-    file[41] = c;
-    for k in 0..c {
-        let key = usize::from(42 + 3 * k);
-        file[key] = 1;
-        writing::put_u16(&mut file, key + 1, first + u16::from(k));
-    }
-    file
-}
-
-// The outcome of such a file, and what one more record on its graph gives.
-fn print_list(
-    rt: &impl Print,
-    title: &str,
+// A definition of name 1, and a list of keys of that name from index `first` on.
+#[derive(Clone, Copy)]
+struct Measured {
     length: u16,
     first: u16,
-    c: u8,
-    record: &[u8],
-) -> io::Result<()>
-    requires { (first ≤ 256) × (c ≤ 25) }
-{
-    let file = measured(length, first, c);
-    print_load(rt, title, &file[..usize::from(42 + 3 * c)], 1, record)
+    keys: u8,
+    ghost few: { (first ≤ 256) × (keys ≤ 25) },
+}
+
+impl Measured {
+    fn of(length: u16, first: u16, keys: u8) -> Measured
+        requires { (first ≤ 256) × (keys ≤ 25) }
+    {
+        Measured {
+            length,
+            first,
+            keys,
+        }
+    }
+
+    // A file of the two: each key is written from its number.
+    fn file(self) -> [u8; 117] {
+        let mut file = [0; 117];
+        file[0] = 2;
+        file[2] = 10;
+        file[4] = 17;
+        file[6] = 27;
+        file[8] = 15 + 3 * self.keys;
+        file[11] = 1;
+        file[21] = 4;
+        file[24] = 1;
+        writing::put_u16(&mut file, 25, self.length);
+        file[38] = 3;
+        file[41] = self.keys;
+        for k in 0..self.keys {
+            let key = usize::from(42 + 3 * k);
+            file[key] = 1;
+            writing::put_u16(&mut file, key + 1, self.first + u16::from(k));
+        }
+        file
+    }
+
+    // The outcome of such a file, and what one more record on its graph gives.
+    fn print(self, rt: &impl Print, title: &str, record: &[u8]) -> io::Result<()> {
+        let file = self.file();
+        let end = usize::from(42 + 3 * self.keys);
+        print_load(rt, title, &file[..end], 1, record)
+    }
 }
 
 // A definition alone, and what the list of 24 keys of such a file gives in a single call on its graph.
@@ -135,14 +146,14 @@ fn print_single(rt: &impl Print, title: &str, length: u16, file: &[u8]) -> io::R
 
 // Lists of 24 and 25 keys at maps of 232, 233 and 256 entries: 7 goes by the keys that are new, and 4 comes before it. `entry` is another name's key.
 fn print_lists(rt: &impl Print, entry: &[u8]) -> io::Result<()> {
-    print_list(rt, "232 entries, 24 keys: ", 232, 232, 24, entry)?;
-    print_list(rt, "233 entries, 24 keys: ", 233, 233, 24, entry)?;
-    print_list(rt, "233 entries, 24 keys, 23 new: ", 233, 232, 24, entry)?;
-    print_list(rt, "256 entries, 24 keys, none new: ", 256, 232, 24, entry)?;
-    print_list(rt, "233 entries, 25 keys: ", 233, 233, 25, entry)?;
-    let fits = measured(232, 232, 24);
+    Measured::of(232, 232, 24).print(rt, "232 entries, 24 keys: ", entry)?;
+    Measured::of(233, 233, 24).print(rt, "233 entries, 24 keys: ", entry)?;
+    Measured::of(233, 232, 24).print(rt, "233 entries, 24 keys, 23 new: ", entry)?;
+    Measured::of(256, 232, 24).print(rt, "256 entries, 24 keys, none new: ", entry)?;
+    Measured::of(233, 233, 25).print(rt, "233 entries, 25 keys: ", entry)?;
+    let fits = Measured::of(232, 232, 24).file();
     print_single(rt, "a definition of 232, then 24 keys: ", 232, &fits)?;
-    let over = measured(233, 233, 24);
+    let over = Measured::of(233, 233, 24).file();
     print_single(rt, "a definition of 233, then 24 keys: ", 233, &over)
 }
 
