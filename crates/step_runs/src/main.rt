@@ -82,10 +82,9 @@ fn count_marks(marks: &[bool; 512]) -> usize {
 fn probe_step(
     rt: &impl Print,
     g: CircuitDag,
-    state: ParallelBlocks,
+    walk: &mut ParallelBlocks,
     buffer: &mut [u16],
-) -> io::Result<ParallelBlocks> {
-    let mut walk = state;
+) -> io::Result<()> {
     buffer.fill(9999);
     let answer = walk.next(g, &mut *buffer);
     print!(rt; "next buffer {}:", buffer.len())?;
@@ -96,26 +95,25 @@ fn probe_step(
     }
     let current = count_marks(&walk.current);
     let executed = count_marks(&walk.executed);
-    println!(rt; " {current} {executed}{}", Entries(buffer))?;
-    Ok(walk)
+    println!(rt; " {current} {executed}{}", Entries(buffer))
 }
 
 // A step with no buffer, and one with this buffer from where the first left the walk.
 fn probe_steps(
     rt: &impl Print,
     g: CircuitDag,
-    state: ParallelBlocks,
+    walk: &mut ParallelBlocks,
     buffer: &mut [u16],
-) -> io::Result<ParallelBlocks> {
-    let after = probe_step(rt, g, state, &mut [0; 0])?;
-    probe_step(rt, g, after, buffer)
+) -> io::Result<()> {
+    probe_step(rt, g, &mut *walk, &mut [0; 0])?;
+    probe_step(rt, g, walk, buffer)
 }
 
 // The walk's first five steps.
 fn probe_walk(rt: &impl Print, g: CircuitDag, buffer: &mut [u16]) -> io::Result<()> {
     let mut walk = ParallelBlocks::new();
     for _ in 0..5 {
-        walk = probe_steps(rt, g, walk, &mut *buffer)?;
+        probe_steps(rt, g, &mut walk, &mut *buffer)?;
     }
     Ok(())
 }
@@ -126,7 +124,8 @@ fn probe_current(rt: &impl Print, g: CircuitDag, v: u16, buffer: &mut [u16]) -> 
     if let Some(mark) = current.get_mut(usize::from(v)) {
         *mark = true;
         let executed = graph::no_marks();
-        probe_step(rt, g, ParallelBlocks { current, executed }, buffer)?;
+        let mut walk = ParallelBlocks { current, executed };
+        probe_step(rt, g, &mut walk, buffer)?;
     }
     Ok(())
 }
@@ -165,8 +164,7 @@ fn probe_file(rt: &impl Print, bytes: &[u8]) -> io::Result<()> {
 
 fn main(rt: HostRuntime) -> io::Result<()> {
     let mut input = [0; 65536];
-    let n = standard_io::read_file(&rt, &mut input);
-    for file in Files(&input[..n]) {
+    for file in Files(standard_io::read_file(&rt, &mut input)) {
         probe_file(&rt, file)?;
     }
     Ok(())
