@@ -1,6 +1,6 @@
-// Files of gates, records and fields written into buffers with room to spare, just enough and one byte less, at positions up to the buffer's end,
-// past it and so far past it that the sum would wrap. Each buffer held 170s and is printed byte for byte, of a long one the start and the end.
-// tools/writing_answers.py computes the same from the documents.
+// Files of gates, records and fields written into buffers with room to spare, just enough and one byte less, at positions
+// up to the buffer's end, past it and so far past it that the sum would wrap. Each buffer held 170s and is printed byte for
+// byte, of a long one the start and the end. tools/writing_answers.py computes the same from the documents.
 #![tactic(auto)]
 
 use std::io;
@@ -51,37 +51,35 @@ fn probe_small(rt: &impl Print, n: usize, buffer: &mut [u8]) -> io::Result<()> {
     print_bytes(rt, &*buffer)
 }
 
-// A number of two bytes in a buffer of five.
-fn probe_number(rt: &impl Print, at: usize) -> io::Result<()> {
-    let mut buffer = [170u8; 5];
-    writing::put_u16(&mut buffer, at, 513);
-    print!(rt; "number at {at}:")?;
-    print_bytes(rt, &buffer)
+// What a call writes into a buffer of 170s.
+fn probe_put<F: FnOnce(&mut [u8])>(
+    rt: &impl Print,
+    title: &str,
+    at: usize,
+    buffer: &mut [u8],
+    put: F,
+) -> io::Result<()>
+    requires { F.IsAlwaysCallable put }
+{
+    buffer.fill(170);
+    put(&mut *buffer);
+    print!(rt; "{title} at {at}:")?;
+    print_bytes(rt, &*buffer)
 }
 
 // A part in a buffer of five.
 fn probe_part(rt: &impl Print, at: usize, part: &[u8]) -> io::Result<()> {
-    let mut buffer = [170u8; 5];
-    writing::put_part(&mut buffer, at, part);
-    print!(rt; "part at {at}:")?;
-    print_bytes(rt, &buffer)
+    probe_put(rt, "part", at, &mut [0; 5], |out| {
+        writing::put_part(out, at, part)
+    })
 }
 
-// A gate at the front in a buffer of sixteen.
-fn probe_gate(rt: &impl Print, at: usize) -> io::Result<()> {
-    let mut buffer = [170u8; 16];
-    let gate = Gate {
-        front: true,
-        mask: 9241421688590303745,
-    };
-    writing::put_gate(&mut buffer, at, gate);
-    print!(rt; "gate at {at}:")?;
-    print_bytes(rt, &buffer)
-}
-
+// Numbers of two bytes and parts in a buffer of five, a gate at the front in one of sixteen.
 fn probe_fields(rt: &impl Print) -> io::Result<()> {
     for at in [0, 3, 4, 18446744073709551615] {
-        probe_number(rt, at)?;
+        probe_put(rt, "number", at, &mut [0; 5], |out| {
+            writing::put_u16(out, at, 513)
+        })?;
     }
     for at in [0, 2, 3, 18446744073709551614] {
         probe_part(rt, at, &[1, 2, 3])?;
@@ -89,8 +87,14 @@ fn probe_fields(rt: &impl Print) -> io::Result<()> {
     probe_part(rt, 0, &[1, 2, 3, 4, 5, 6])?;
     probe_part(rt, 5, &[])?;
     probe_part(rt, 6, &[])?;
+    let front = Gate {
+        front: true,
+        mask: 9241421688590303745,
+    };
     for at in [0, 2, 3] {
-        probe_gate(rt, at)?;
+        probe_put(rt, "gate", at, &mut [0; 16], |out| {
+            writing::put_gate(out, at, front)
+        })?;
     }
     let gate = Gate {
         front: false,
