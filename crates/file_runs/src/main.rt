@@ -29,13 +29,11 @@ fn read_bytes(file: &[u8], i: usize) -> &[u8] {
     file::read_record(file, i).bytes
 }
 
-// The first refusal in checking a file and parsing its records in order.
+// The first refusal in checking a file and parsing its records in order, by their numbers: a refusal has its record's.
 fn parse_all(file: &[u8]) -> Result<(), Refusal> {
     file::check_file(file)?;
     for k in 0..file::record_count(file) {
-        if let Err(cause) = file::parse_record(read_bytes(file, k)) {
-            return Err(file::at_record(k, cause));
-        }
+        file::parse_record(read_bytes(file, k)).map_err(|cause| file::at_record(k, cause))?;
     }
     Ok(())
 }
@@ -196,25 +194,30 @@ impl Listing {
     }
 }
 
-// One line: what it is, then the answer to the first n bytes. The length stands beside: that a part such as
-// `&full[..n]` of an array that a call made is within it was tried in the callers, and not proved.
-fn print_limit(rt: &impl Print, title: &str, bytes: &[u8], n: usize) -> io::Result<()> {
-    let Some(file) = bytes.get(..n) else {
-        return Ok(());
-    };
+// One line: what it is, then the answer to the file.
+fn print_checked(rt: &impl Print, title: &str, file: &[u8]) -> io::Result<()> {
     match parse_all(file) {
         Ok(()) => println!(rt; "{title}: accepted"),
         Err(r) => println!(rt; "{title}: {r}"),
     }
 }
 
+// The same of the first n bytes of an array that a call made. That `&full[..n]` is within it was tried in the callers,
+// and not proved: the search for it stopped at its limit.
+fn print_limit(rt: &impl Print, title: &str, bytes: &[u8], n: usize) -> io::Result<()> {
+    let Some(file) = bytes.get(..n) else {
+        return Ok(());
+    };
+    print_checked(rt, title, file)
+}
+
 fn print_limits(rt: &impl Print) -> io::Result<()> {
     println!(rt; "limits")?;
     let zeros = [0u8; 3];
-    print_limit(rt, "no byte", &zeros, 0)?;
-    print_limit(rt, "one byte", &zeros, 1)?;
-    print_limit(rt, "no record", &zeros, 2)?;
-    print_limit(rt, "no record and a byte", &zeros, 3)?;
+    print_checked(rt, "no byte", &zeros[..0])?;
+    print_checked(rt, "one byte", &zeros[..1])?;
+    print_checked(rt, "no record", &zeros[..2])?;
+    print_checked(rt, "no record and a byte", &zeros[..3])?;
     let full = zero_records(512);
     print_limit(rt, "512 records", &full, 9218)?;
     print_limit(rt, "512 records, one byte less", &full, 9217)?;
@@ -224,7 +227,7 @@ fn print_limits(rt: &impl Print) -> io::Result<()> {
     print_limit(rt, "513 in the header alone", &over, 2)?;
     print_limit(rt, "513 records", &over, 9236)?;
     let most = [255u8; 2];
-    print_limit(rt, "65535 in the header alone", &most, 2)
+    print_checked(rt, "65535 in the header alone", &most[..2])
 }
 
 // A record's bytes, as the reader hands them back; none where the record is absent.
@@ -320,7 +323,7 @@ fn print_two(
     let Some(file) = bytes.get(..n) else {
         return Ok(());
     };
-    print_limit(rt, title, file, n)?;
+    print_checked(rt, title, file)?;
     print_place(rt, file, 0)?;
     print_place(rt, file, 1)
 }
@@ -386,9 +389,9 @@ fn print_slack_records(rt: &impl Print) -> io::Result<()> {
     for i in 0..4 {
         print_record(rt, &SLACK, i)?;
     }
-    print_limit(rt, "72 bytes of it", &SLACK, 72)?;
-    print_limit(rt, "68 bytes of it", &SLACK, 68)?;
-    print_limit(rt, "67 bytes of it", &SLACK, 67)
+    print_checked(rt, "72 bytes of it", &SLACK[..72])?;
+    print_checked(rt, "68 bytes of it", &SLACK[..68])?;
+    print_checked(rt, "67 bytes of it", &SLACK[..67])
 }
 
 fn main(rt: HostRuntime) -> io::Result<()> {
