@@ -4,6 +4,7 @@
 #![tactic(auto)]
 
 ghost use Rattle.std.specs.Prelude.{◌<◌, ◌≤◌};
+ghost use Rattle.file.specs.Pairs.{Part, locate_record};
 
 use file::{Place, Refusal};
 use std::io;
@@ -25,7 +26,9 @@ const SLACK: [u8; 72] = [
 ];
 
 // Record i's bytes, by the record reader; none where it refuses.
-fn read_bytes(file: &[u8], i: usize) -> &[u8] {
+fn read_bytes<'a>(file: &'a [u8], i: usize) -> &'a [u8]
+    ensures { Part file.entry result (locate_record file.now i) }
+{
     file::read_record(file, i).bytes
 }
 
