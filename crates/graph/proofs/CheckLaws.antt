@@ -231,42 +231,62 @@ edge_low x block f t few h =
     let q : t < x.count = ltb-true _ _ (and_l (ltb t x.count) (operation_in x t) (and_r a b both)) in
     (omega arith, omega arith)
 
-pub edges_low : (x : Nodes) (block : List Bool) (es : Edges) → x.count ≤ 512 → all_of (edge_fits x block) (edges_in es) ≡ true
-    → (i : ℕ) → i < es.count → low_edge es i
-edges_low x block es few h i k = edge_low x block (from_at es i) (to_at es i) few (all_up_to (edge_fits x block) (edge_at es) es.count h i k)
-
 same_ends : (es : Edges) (i j : ℕ) → same_edge (edge_at es i) (edge_at es j) ≡ true → (from_at es i ≡ from_at es j) × (to_at es i ≡ to_at es j)
 same_ends es i j e = (
   eqb-true _ _ (and_l (eqb (from_at es i) (from_at es j)) (eqb (to_at es i) (to_at es j)) e),
   eqb-true _ _ (and_r (eqb (from_at es i) (from_at es j)) (eqb (to_at es i) (to_at es j)) e),
 )
 
-pub record Seen (es : Edges) (seen : List ℕ) (i : ℕ) : Type 0 where
+pub record Seen (x : Nodes) (block : List Bool) (es : Edges) (seen : List ℕ) (i : ℕ) : Type 0 where
   pub long : length seen ≡ 4096
   pub marks : MarkedBits (cell_at es) i seen
+  pub fit : all_of (edge_fits x block) (map (edge_at es) (up_to i)) ≡ true
   pub apart : distinct same_edge (map (edge_at es) (up_to i)) ≡ true
 
-pub seen_begin : (es : Edges) → Seen es (replicate 4096 0) 0
-seen_begin es = record { long = length-replicate {A = ℕ} 4096 0; marks = no_bits (cell_at es) 4096; apart = distinct_none same_edge (edge_at es) }
+pub seen_begin : (x : Nodes) (block : List Bool) (es : Edges) → Seen x block es (replicate 4096 0) 0
+seen_begin x block es = record {
+  long = length-replicate {A = ℕ} 4096 0;
+  marks = no_bits (cell_at es) 4096;
+  fit = all_none (edge_fits x block) (edge_at es);
+  apart = distinct_none same_edge (edge_at es);
+}
 
-module _ {es : Edges} {seen : List ℕ} {i : ℕ} (L : (j : ℕ) → j < es.count → low_edge es j) (I : Seen es seen i) where
-  pub seen_twice : i < es.count → mark_at seen (cell_at es i) ≡ true → false ≡ distinct same_edge (edges_in es)
+-- an edge that does not fit
+pub seen_unfit : (x : Nodes) (block : List Bool) (es : Edges) (i : ℕ) → i < es.count → edge_fits x block (edge_at es i) ≡ false
+    → false ≡ (all_of (edge_fits x block) (edges_in es) && distinct same_edge (edges_in es))
+seen_unfit x block es i k e = rw (not-true (λ (h : all_of (edge_fits x block) (edges_in es) ≡ true). clash_bool (all_up_to (edge_fits x block) (edge_at es) es.count h i k) e)) refl
+
+module _ {x : Nodes} {block : List Bool} {es : Edges} {seen : List ℕ} {i : ℕ} (few : x.count ≤ 512) (I : Seen x block es seen i) (fits : edge_fits x block (edge_at es i) ≡ true) where
+  low_before : (j : ℕ) → j < i → low_edge es j
+  low_before j k = edge_low x block (from_at es j) (to_at es j) few (all_up_to (edge_fits x block) (edge_at es) i I.fit j k)
+
+  pub low_here : low_edge es i
+  low_here = edge_low x block (from_at es i) (to_at es i) few fits
+
+  pub seen_twice : i < es.count → mark_at seen (cell_at es i) ≡ true
+      → false ≡ (all_of (edge_fits x block) (edges_in es) && distinct same_edge (edges_in es))
   seen_twice k s =
       let r = I.marks.only (cell_at es i) s in
-      let a = L r.0 (omega (arith, r.1)) in
-      let b = L i k in
-      let x : from_at es r.0 ≡ from_at es i = omega (arith, r.2, a.1, b.1) in
-      let y : to_at es r.0 ≡ to_at es i = omega (arith, r.2, a.1, b.1) in
-      sym (distinct_broken same_edge (edge_at es) es.count i k (up_to-any (λ (e : Edge). same_edge e (edge_at es i)) (edge_at es) i r.0 r.1
-      (and_intro (eqb (from_at es r.0) (from_at es i)) (eqb (to_at es r.0) (to_at es i)) (eq-eqb _ _ x) (eq-eqb _ _ y))))
+      let a = low_before r.0 r.1 in
+      let b = low_here in
+      let y : from_at es r.0 ≡ from_at es i = omega (arith, r.2, a.1, b.1) in
+      let z : to_at es r.0 ≡ to_at es i = omega (arith, r.2, a.1, b.1) in
+      let broken : distinct same_edge (edges_in es) ≡ false = distinct_broken same_edge (edge_at es) es.count i k (up_to-any (λ (e : Edge). same_edge e (edge_at es i)) (edge_at es) i r.0 r.1
+      (and_intro (eqb (from_at es r.0) (from_at es i)) (eqb (to_at es r.0) (to_at es i)) (eq-eqb _ _ y) (eq-eqb _ _ z))) in
+      rw broken (go (all_of (edge_fits x block) (edges_in es)))
+    where
+      go : (q : Bool) → false ≡ (q && false)
+      go true = refl
+      go false = refl
 
-  pub seen_more : i < es.count → mark_at seen (cell_at es i) ≡ false
-      → Seen es (set seen (cell_at es i / 64) (get_or seen (cell_at es i / 64) 0 + 2 ^ (cell_at es i % 64))) (i + 1)
-  seen_more k s =
-      let b = L i k in
+  pub seen_more : mark_at seen (cell_at es i) ≡ false
+      → Seen x block es (set seen (cell_at es i / 64) (get_or seen (cell_at es i / 64) 0 + 2 ^ (cell_at es i % 64))) (i + 1)
+  seen_more s =
+      let b = low_here in
       record {
         long = length-set seen (cell_at es i / 64) _ ∙ I.long;
         marks = bits_more (cell_at es) i seen (omega (arith, b.0, b.1, I.long)) s I.marks;
+        fit = all_grows (edge_fits x block) (edge_at es) i ∙ and_intro (all_of (edge_fits x block) (map (edge_at es) (up_to i))) (edge_fits x block (edge_at es i)) I.fit fits;
         apart = distinct_grows same_edge (edge_at es) i I.apart (not-true (λ e.
             let r = any-up_to (λ (e : Edge). same_edge e (edge_at es i)) (edge_at es) i e in
             let q = same_ends es r.0 i r.2 in

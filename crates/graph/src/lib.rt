@@ -10,7 +10,7 @@ pub mod soundness;
 ghost use Rattle.std.specs.Prelude.{◌≡◌};
 ghost use Rattle.graph.specs.Dag.{no_end, no_registers, empty};
 
-pub use checking::check_sound;
+pub use checking::{check_graph, check_sound};
 pub use sets::{has_member, members_below, no_marks};
 pub use soundness::{is_register_map, is_sound};
 

@@ -1,6 +1,6 @@
 // Is a handed-in graph sound: one pass over each part, but where the order of its edges or register keys does not show
 // that they are distinct (docs/SPEED.md, "Handed-in graphs in the worst order").
-ghost use Rattle.std.specs.Prelude.{◌≡◌, true, false, cond, ◌&&◌, ◌||◌, ℕ, ◌+◌, ◌*◌, ◌/◌, ◌%◌, ◌^◌, ◌≤◌, ◌<◌, ltb, eqb, get_or};
+ghost use Rattle.std.specs.Prelude.{◌≡◌, true, false, cond, ◌&&◌, ◌||◌, ℕ, ◌+◌, ◌*◌, ◌/◌, ◌%◌, ◌^◌, ◌≤◌, ◌<◌, ltb, eqb, get_or, length};
 ghost use Rattle.file.specs.Lists.{all_of, members};
 ghost use Rattle.graph.specs.Dag.{edge, size};
 ghost use Rattle.graph.specs.Soundness.{if_present, ascends, keys_distinct, counts_fit, ends_add_up, register_map_rule, sound};
@@ -11,15 +11,24 @@ use crate::{CircuitDag, Commuting, Edges, End, Registers};
 use file::RegisterKey;
 use std::array;
 
+// How many numbers the commuting list has room for. A call, since of an array that a field lends a proof has no length.
+fn room_of(list: &[u16; 512]) -> usize
+    ensures { (result ≡ 512) × (length list.now ≡ 512) }
+{
+    list.len()
+}
+
 // The counts are within the limits, and the ends add up to the nodes.
 fn counts_fit(g: &CircuitDag) -> bool
-    ensures { result ≡ (counts_fit g.now && ends_add_up g.now) }
+    ensures value { result ≡ (counts_fit g.now && ends_add_up g.now) }
+    ensures room { length g.now.commuting.list ≡ 512 }
 {
+    let room = room_of(&g.commuting.list);
     g.nodes.count <= 512
         && g.edges.count <= 2048
         && g.first_registers.count <= 256
         && g.last_registers.count <= 256
-        && g.commuting.count <= 512
+        && g.commuting.count <= room
         && g.backs <= g.nodes.count
         && g.nodes.count - g.backs == g.fronts
 }
@@ -130,17 +139,9 @@ impl<'a> Operations<'a> {
         self.has(from) && self.has(to) && place[f] < place[t] && !self.g.first.block[t]
     }
 
-    // So does every edge.
-    fn edges_fit(&self) -> bool
-        ensures { result ≡ edges_fit self.now.g.now }
-    {
-        let es = &self.g.edges;
-        (0..es.count).all(|i| self.edge_fits(es.from[i], es.to[i]))
-    }
-
     // Every edge fits and no two are the same, for edges of which those with one older end and direction come in the
     // order of their newer ends, as insertion leaves them: a cell's stamp is the newer end of its last edge, plus 1.
-    // One pass with 2 KB of stamps; where it says no, the two slower ones of all_edges_fit decide. By the edge's
+    // One pass with 2 KB of stamps; where it says no, edges_differ decides. By the edge's
     // number, in all loops over edges: the definitions speak of edge i, and of the items of a zip of the two columns each
     // loop would have to show that they are its ends.
     fn edges_ascend(&self) -> bool
@@ -163,11 +164,34 @@ impl<'a> Operations<'a> {
         true
     }
 
+    // Every edge fits and no two are the same, whatever their order, by a bit for each pair of nodes. A remainder is below
+    // 64, which a cast says as well as try_from, without a case that never comes.
+    fn edges_differ(&self) -> bool
+        ensures { result ≡ (edges_fit self.now.g.now && edges_differ self.now.g.now.edges) }
+    {
+        let es = &self.g.edges;
+        let mut seen = [0u64; 4096];
+        for i in 0..es.count {
+            let (from, to) = (es.from[i], es.to[i]);
+            if !self.edge_fits(from, to) {
+                return false;
+            }
+            let cell = usize::from(from) * 512 + usize::from(to);
+            let b = (cell % 64) as u32;
+            let word = seen[cell / 64];
+            if has_bit(word, b) {
+                return false;
+            }
+            seen[cell / 64] = with_bit(word, b);
+        }
+        true
+    }
+
     // Every edge fits and no two are the same. The edges of a built graph pass at the first look.
     fn all_edges_fit(&self) -> bool
         ensures { result ≡ (edges_fit self.now.g.now && edges_differ self.now.g.now.edges) }
     {
-        self.edges_ascend() || (self.edges_fit() && edges_differ(&self.g.edges))
+        self.edges_ascend() || self.edges_differ()
     }
 }
 
@@ -196,25 +220,6 @@ fn older_cell(from: u16, to: u16) -> usize
     } else {
         2 * usize::from(from)
     }
-}
-
-// No two edges are the same, in any order, by a bit for each pair of nodes. A remainder is below 64, which a cast says as
-// well as try_from, without a case that never comes.
-fn edges_differ(es: &Edges) -> bool
-    requires { (es.now.count ≤ 2048) × ((i : ℕ) → i < es.now.count → low_edge es.now i) }
-    ensures { result ≡ edges_differ es.now }
-{
-    let mut seen = [0u64; 4096];
-    for i in 0..es.count {
-        let cell = usize::from(es.from[i]) * 512 + usize::from(es.to[i]);
-        let b = (cell % 64) as u32;
-        let word = seen[cell / 64];
-        if has_bit(word, b) {
-            return false;
-        }
-        seen[cell / 64] = with_bit(word, b);
-    }
-    true
 }
 
 // The commuting list ascends strictly, below n.
@@ -336,8 +341,17 @@ fn parts_fit(g: &CircuitDag) -> bool
 }
 
 // "A handed-in graph is sound if ..": every clause holds. The counts come first, since the other loops run to them.
+// Of a graph that is lent, so that no call copies its 16 KB.
+pub(crate) fn is_sound_graph(g: &CircuitDag) -> bool
+    ensures value { result ≡ sound g.now }
+    ensures room { length g.now.commuting.list ≡ 512 }
+{
+    counts_fit(g) && places_fit(g) && parts_fit(g)
+}
+
+// The same of a graph that is handed over.
 pub fn is_sound(g: CircuitDag) -> bool
     ensures { result ≡ sound g }
 {
-    counts_fit(&g) && places_fit(&g) && parts_fit(&g)
+    is_sound_graph(&g)
 }
