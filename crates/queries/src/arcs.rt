@@ -2,7 +2,7 @@
 ghost use Rattle.queries.specs.Marks.{EndsBelow};
 
 use file::Refusal;
-use graph::{CircuitDag, check_sound};
+use graph::{CircuitDag, check_graph};
 
 // Arc i leads from node far[i] to node near[i], both below 512: along the edges, or against them. The graph's arrays
 // with its count, as the graph has them: the definitions of the passes (Swept, Reaching, Closed) speak of arrays and a
@@ -26,7 +26,7 @@ impl<'a> Arcs<'a> {
             (λ cause. check_sound g.now ≡ Err cause) }
         ensures counts { OnOk result (Counts g.now) }
     {
-        check_sound(*g)?;
+        check_graph(g)?;
         Ok(Arcs {
             near: &g.edges.to,
             far: &g.edges.from,
