@@ -5,6 +5,7 @@ ghost use Rattle.queries.specs.Marks.{kept, without, layer_by};
 ghost use Rattle.queries.specs.Queries.{answers};
 
 use crate::answer_list;
+use crate::queries::copy_list;
 use file::Refusal;
 
 // The nodes below n that are marked and not skipped, ascending.
@@ -72,8 +73,8 @@ impl Kept<'_> {
         if buffer.len() < rest || buffer.len() - rest < k {
             return Err(Refusal::ShortBuffer);
         }
-        buffer[..i].copy_from_slice(&layer[..i]);
-        buffer[i..rest].copy_from_slice(&layer[i + 1..]);
+        copy_list(&layer[..i], &mut buffer[..i]);
+        copy_list(&layer[i + 1..], &mut buffer[i..rest]);
         self.write(&mut buffer[rest..]);
         Ok(rest + k)
     }

@@ -173,6 +173,17 @@ fn waiting(skip: &[bool; 512], arcs: &Arcs) -> [bool; 512]
     mark
 }
 
+// The list goes over a part of a buffer that is as long. A loop, and no copy_from_slice: of two lent parts that becomes a
+// call of memmove, and the library for C asks its host for memcpy and memset alone.
+pub(crate) fn copy_list(list: &[u16], part: &mut [u16])
+    requires { length part.old ≡ length list.now }
+    ensures { part.new ≡ list.now }
+{
+    for (i, v) in list.iter().enumerate() {
+        part[i] = *v;
+    }
+}
+
 // The answer of a query whose entries are a list.
 pub fn answer_list(list: &[u16], buffer: &mut [u16]) -> Result<usize, Refusal>
     ensures { record { answer = result; buffer = buffer.new } ≡ answers list.now buffer.old }
@@ -180,7 +191,7 @@ pub fn answer_list(list: &[u16], buffer: &mut [u16]) -> Result<usize, Refusal>
     if buffer.len() < list.len() {
         return Err(Refusal::ShortBuffer);
     }
-    buffer[..list.len()].copy_from_slice(list);
+    copy_list(list, &mut buffer[..list.len()]);
     Ok(list.len())
 }
 

@@ -8,4 +8,4 @@ returns c =
     let a = c.args in
     let p = c.requires in
     next-whole a.i a.k a.layer.now (kept a.self.now.mark.now a.self.now.skip.now a.self.now.n) a.buffer.now _ _ _ p.1 p.0 (omega (arith, c.if-buffer-rest-2.false, c.if-buffer-rest.false))
-    (copied_head _ _ _ _ p.1 c.copy_from_slice.ensures.after) (copied_tail _ _ _ _ p.1 c.copy_from_slice-2.ensures.after) (written_tail _ _ _ _ c.write.ensures)
+    (copied_head _ _ _ _ p.1 c.copy_list.ensures) (copied_tail _ _ _ _ p.1 c.copy_list-2.ensures) (written_tail _ _ _ _ c.write.ensures)
