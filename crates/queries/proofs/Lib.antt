@@ -2,6 +2,7 @@ pub mod MarkLaws
 pub mod BufferLaws
 pub mod ReachLaws
 pub mod QueryLaws
+pub mod RowLaws
 pub mod PlaceOrder
 pub mod SortLaws
 pub mod ConversionLaws
