@@ -100,7 +100,10 @@ impl WorkingEnd {
     {
         let i = q.index();
         self.end.node[i] = v.number.0;
-        self.top = self.top.max(i + 1);
+        // A branch, and no max: a number that is written for each qubit is waited for at the next.
+        if self.top <= i {
+            self.top = i + 1;
+        }
     }
 
     // The source, where there is one, leaves the block, and v joins it.
@@ -243,16 +246,18 @@ pub(crate) fn edges_pass(edges: usize, k: usize, qubits: InvolvedQubits) -> bool
 
 // near, far and others stand as three parameters in what follows: methods of a struct of three `&mut` would name them by
 // nested pairs of what it leaves, and would have to say besides that each still refers to the same value.
-// "Set, each qubit q": a qubit that is new at the near end becomes fresh at the far end.
+// "Set, each qubit q": a qubit that is new at the near end becomes fresh at the far end. all is the near end's all-qubit
+// node, which no qubit changes: it is read once a record.
 fn link_qubit(
     near: &mut WorkingEnd,
     far: &mut WorkingEnd,
     others: &mut Others,
     q: MapQubit,
+    all: Option<Node>,
     fresh: Node,
     v: Node,
 )
-    requires { length others.old < 64 }
+    requires { (length others.old < 64) × (number_of all ≡ near.old.all.0) }
     ensures near { near.new ≡ near_after near.old q.number.0 v.number.0 }
     ensures far { far.new ≡ record far.old {
       node = cond (present (entry_at near.old.node q.number)) far.old.node (set far.old.node q.number.0 fresh.number.0);
@@ -260,7 +265,7 @@ fn link_qubit(
     ensures others { others.new ≡ cond (present (source near.old q.number.0)) (add (source near.old q.number.0) others.old) others.old }
 {
     let old = near.node_at(q);
-    let source = old.or(near.all());
+    let source = old.or(all);
     near.set_node(q, v);
     near.replace(source, v);
     if let Some(u) = source {
@@ -283,9 +288,10 @@ fn join_set(
     requires { others.old ≡ [] }
     ensures { Joined (link_set (rule_of rule) mask v.number.0 near.old far.old) near.new far.new others.new }
 {
+    let all = near.all();
     let fresh = fresh_entry(rule, &*near, &*far, v);
     for q in Qubits::of(mask) {
-        link_qubit(near, far, others, q, fresh, v);
+        link_qubit(near, far, others, q, all, fresh, v);
     }
     if others.len() == 0 {
         far.join_block(v);
