@@ -91,7 +91,8 @@ impl RegisterMap {
         self.key(p) == key
     }
 
-    // The key's position.
+    // The key's position. A loop, and no find: that takes one step more an entry, and where many keys share a cell a load
+    // reads many entries.
     fn find(&self, key: RegisterKey) -> Option<usize>
         ensures { Found self.now.entries key result }
     {
@@ -99,7 +100,12 @@ impl RegisterMap {
         if guess < self.entries.count && self.stands_at(guess, key) {
             return Some(guess);
         }
-        (0..self.entries.count).find(|p| self.stands_at(*p, key))
+        for p in 0..self.entries.count {
+            if self.stands_at(p, key) {
+                return Some(p);
+            }
+        }
+        None
     }
 
     // Whether there is no room for one more key.
