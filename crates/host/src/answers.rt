@@ -76,9 +76,10 @@ impl From<Loaded> for HostGraph {
     ghost from_gives = { λ x r. r ≡ graph_loaded x };
 
     fn from(x: Loaded) -> HostGraph {
+        let graph = HostDag::from(x.graph);
         HostGraph {
             answer: HostAnswer::from(x.answer),
-            graph: HostDag::from(x.graph),
+            graph,
         }
     }
 }

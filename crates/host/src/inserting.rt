@@ -20,25 +20,18 @@ pub extern "C" fn sawhekonu_new() -> HostDag
     HostDag::from(graph)
 }
 
-// The graph of a file.
-fn load_file(rule: LoadingRule, file: &[u8]) -> HostGraph
-    ensures { result ≡ graph_loaded (load_by rule file.now) }
-{
-    HostGraph::from(insertion::load_by(rule, file))
-}
-
 #[unsafe(no_mangle)]
 pub extern "C" fn sawhekonu_load(file: &[u8]) -> HostGraph
     ensures { result ≡ graph_loaded (load file.now) }
 {
-    load_file(LoadingRule::NearAll, file)
+    HostGraph::from(insertion::load(file))
 }
 
 #[unsafe(no_mangle)]
 pub extern "C" fn sawhekonu_load_both_ends(file: &[u8]) -> HostGraph
     ensures { result ≡ graph_loaded (load_by FarAll file.now) }
 {
-    load_file(LoadingRule::FarAll, file)
+    HostGraph::from(insertion::load_by(LoadingRule::FarAll, file))
 }
 
 // The graph after a record.

@@ -33,37 +33,36 @@ impl From<Result<CircuitDag, Refusal>> for Loaded {
     }
 }
 
-// The graph of the records with these numbers of a file that passed the check, one after the other. A refusal by the
-// register maps comes before one by the links: the maps are made of the records before it.
-pub(crate) fn insert_in_order(
-    rule: LoadingRule,
-    file: &[u8],
-    order: &[u16],
-) -> Result<CircuitDag, Refusal>
+// The records with these numbers of a file that passed the check, one after the other, on the empty graph. A refusal by
+// the register maps comes before one by the links: the maps are made of the records before it. By returns of what a load
+// answers, and no `?` over a Result with the graph: out of that its 16 KB are moved once more at each step.
+pub(crate) fn insert_in_order(rule: LoadingRule, file: &[u8], order: &[u16]) -> Loaded
     requires { (check_file file.now ≡ Ok tt) × (all_of (λ i. ltb i (count_of file.now)) order.now ≡ true)
         × (length order.now ≤ 512) }
-    ensures { loaded result ≡ insert_records (rule_of rule) file.now empty order.now }
+    ensures { result ≡ insert_records (rule_of rule) file.now empty order.now }
 {
     let x = registers::register_records(rule, file, order);
-    x.registered.answer?;
-    x.linked.answer?;
-    Ok(assemble(list_nodes(file, order), x.linked, x.registered))
+    if let Err(cause) = x.registered.answer {
+        return Loaded::from(Err(cause));
+    }
+    if let Err(cause) = x.linked.answer {
+        return Loaded::from(Err(cause));
+    }
+    Loaded {
+        answer: Ok(()),
+        graph: assemble(list_nodes(file, order), x.linked, x.registered),
+    }
 }
 
-// The graph of a circuit file, or the first refusal: 2, 1, 3, then per record 4, 12, 6, 7.
-fn load_graph(rule: LoadingRule, file: &[u8]) -> Result<CircuitDag, Refusal>
-    ensures { loaded result ≡ load_by rule file.now }
-{
-    file::check_file(file)?;
-    let order = queries::in_file_order();
-    insert_in_order(rule, file, &order[..file::record_count(file)])
-}
-
-// The same, with the empty graph beside a refusal.
+// A circuit file, or the first refusal, with the empty graph: 2, 1, 3, then per record 4, 12, 6, 7.
 pub fn load_by(rule: LoadingRule, file: &[u8]) -> Loaded
     ensures { result ≡ load_by rule file.now }
 {
-    Loaded::from(load_graph(rule, file))
+    if let Err(cause) = file::check_file(file) {
+        return Loaded::from(Err(cause));
+    }
+    let order = queries::in_file_order();
+    insert_in_order(rule, file, &order[..file::record_count(file)])
 }
 
 // The same by document 01's rule: document 01's call, whose clause names no rule.
