@@ -48,23 +48,21 @@ impl Others {
         self.count
     }
 
-    // By any: contains reads entries together, and waits for those that were just written.
-    fn holds(&self, s: NodeIndex) -> bool
-        ensures { result ≡ member s.0 self.now }
-    {
-        self.node[..self.count].iter().any(|u| s.0 == *u)
-    }
-
-    // The node s joins them, unless it is among them.
+    // The node s joins them, unless it is among them. It is put behind them first, where a search that finds no other ends:
+    // so the search waits for no count, which the record's qubits change one after the other.
     pub(crate) fn add(&mut self, s: NodeIndex)
         requires { length self.old < 64 }
         ensures { self.new ≡ add s.0 self.old }
     {
-        if self.holds(s) {
-            return;
-        }
         self.node[self.count] = s.0;
-        self.count += 1;
+        for (i, u) in self.node.iter().enumerate() {
+            if *u == s.0 {
+                if i == self.count {
+                    self.count += 1;
+                }
+                return;
+            }
+        }
     }
 }
 
