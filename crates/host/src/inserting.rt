@@ -24,7 +24,7 @@ pub extern "C" fn sawhekonu_new() -> HostDag
 pub extern "C" fn sawhekonu_load(file: &[u8]) -> HostGraph
     ensures { result ≡ graph_loaded (load file.now) }
 {
-    HostGraph::from(insertion::load(file))
+    HostGraph::from(insertion::load_by(LoadingRule::NearAll, file))
 }
 
 #[unsafe(no_mangle)]
