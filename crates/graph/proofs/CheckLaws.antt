@@ -254,9 +254,12 @@ seen_begin x block es = record {
 -- an edge that does not fit
 pub seen_unfit : (x : Nodes) (block : List Bool) (es : Edges) (i : ℕ) → i < es.count → edge_fits x block (edge_at es i) ≡ false
     → false ≡ (all_of (edge_fits x block) (edges_in es) && distinct same_edge (edges_in es))
-seen_unfit x block es i k e = rw (not-true (λ (h : all_of (edge_fits x block) (edges_in es) ≡ true). clash_bool (all_up_to (edge_fits x block) (edge_at es) es.count h i k) e)) refl
+seen_unfit x block es i k e =
+    let fits = edge_fits x block in
+    rw (not-true (λ (h : all_of fits (edges_in es) ≡ true). clash_bool (all_up_to fits (edge_at es) es.count h i k) e)) refl
 
-module _ {x : Nodes} {block : List Bool} {es : Edges} {seen : List ℕ} {i : ℕ} (few : x.count ≤ 512) (I : Seen x block es seen i) (fits : edge_fits x block (edge_at es i) ≡ true) where
+module _ {x : Nodes} {block : List Bool} {es : Edges} {seen : List ℕ} {i : ℕ} (few : x.count ≤ 512) (I : Seen x block es seen i)
+    (fits : edge_fits x block (edge_at es i) ≡ true) where
   low_before : (j : ℕ) → j < i → low_edge es j
   low_before j k = edge_low x block (from_at es j) (to_at es j) few (all_up_to (edge_fits x block) (edge_at es) i I.fit j k)
 
@@ -271,8 +274,10 @@ module _ {x : Nodes} {block : List Bool} {es : Edges} {seen : List ℕ} {i : ℕ
       let b = low_here in
       let y : from_at es r.0 ≡ from_at es i = omega (arith, r.2, a.1, b.1) in
       let z : to_at es r.0 ≡ to_at es i = omega (arith, r.2, a.1, b.1) in
-      let broken : distinct same_edge (edges_in es) ≡ false = distinct_broken same_edge (edge_at es) es.count i k (up_to-any (λ (e : Edge). same_edge e (edge_at es i)) (edge_at es) i r.0 r.1
-      (and_intro (eqb (from_at es r.0) (from_at es i)) (eqb (to_at es r.0) (to_at es i)) (eq-eqb _ _ y) (eq-eqb _ _ z))) in
+      let same : same_edge (edge_at es r.0) (edge_at es i) ≡ true
+      = and_intro (eqb (from_at es r.0) (from_at es i)) (eqb (to_at es r.0) (to_at es i)) (eq-eqb _ _ y) (eq-eqb _ _ z) in
+      let broken : distinct same_edge (edges_in es) ≡ false
+      = distinct_broken same_edge (edge_at es) es.count i k (up_to-any (λ (e : Edge). same_edge e (edge_at es i)) (edge_at es) i r.0 r.1 same) in
       rw broken (go (all_of (edge_fits x block) (edges_in es)))
     where
       go : (q : Bool) → false ≡ (q && false)
@@ -286,7 +291,8 @@ module _ {x : Nodes} {block : List Bool} {es : Edges} {seen : List ℕ} {i : ℕ
       record {
         long = length-set seen (cell_at es i / 64) _ ∙ I.long;
         marks = bits_more (cell_at es) i seen (omega (arith, b.0, b.1, I.long)) s I.marks;
-        fit = all_grows (edge_fits x block) (edge_at es) i ∙ and_intro (all_of (edge_fits x block) (map (edge_at es) (up_to i))) (edge_fits x block (edge_at es i)) I.fit fits;
+        fit = all_grows (edge_fits x block) (edge_at es) i
+            ∙ and_intro (all_of (edge_fits x block) (map (edge_at es) (up_to i))) (edge_fits x block (edge_at es i)) I.fit fits;
         apart = distinct_grows same_edge (edge_at es) i I.apart (not-true (λ e.
             let r = any-up_to (λ (e : Edge). same_edge e (edge_at es i)) (edge_at es) i e in
             let q = same_ends es r.0 i r.2 in

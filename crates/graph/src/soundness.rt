@@ -1,6 +1,7 @@
 // Is a handed-in graph sound: one pass over each part, but where the order of its edges or register keys does not show
 // that they are distinct (docs/SPEED.md, "Handed-in graphs in the worst order").
-ghost use Rattle.std.specs.Prelude.{◌≡◌, true, false, cond, ◌&&◌, ◌||◌, ℕ, ◌+◌, ◌*◌, ◌/◌, ◌%◌, ◌^◌, ◌≤◌, ◌<◌, ltb, eqb, get_or, length};
+ghost use Rattle.std.specs.Prelude.{◌≡◌, true, false, cond, ◌&&◌, ◌||◌, ℕ, ◌+◌, ◌*◌, ◌/◌, ◌%◌, ◌^◌, ◌≤◌, ◌<◌};
+ghost use Rattle.std.specs.Prelude.{ltb, eqb, get_or, length};
 ghost use Rattle.file.specs.Lists.{all_of, members};
 ghost use Rattle.graph.specs.Dag.{edge, size};
 ghost use Rattle.graph.specs.Soundness.{if_present, ascends, keys_distinct, counts_fit, ends_add_up, register_map_rule, sound};

@@ -1,6 +1,6 @@
 -- The nodes that a record's node is joined with. Assumes nothing.
-use Rattle.std.proofs.Common.{◌≡◌, refl, sym, ◌∙◌, true, false, cond, List, [], ◌∷◌, ◌++◌, map, ℕ, suc, ◌+◌, ◌≤◌, ◌<◌, length, get_or, set, take}
-use Rattle.std.proofs.Common.{drop, arith, add-one, drop-cons, length-set}
+use Rattle.std.proofs.Common.{◌≡◌, refl, sym, ◌∙◌, true, false, cond, List, [], ◌∷◌, ◌++◌, map, ℕ, suc, ◌+◌, ◌≤◌, ◌<◌, length}
+use Rattle.std.proofs.Common.{get_or, set, take, drop, arith, add-one, drop-cons, length-set}
 use Rattle.std.proofs.lemmas.List.{map-append, get_or-set_same, get_or-set_other, get_or-take, take-set, take_more_set, length-take-le}
 use lib.Seq.{take-suc, take-suc-set, drop-set-lt}
 use borrow.Author.Tests.{eq-eqb, ne_eqb}
@@ -91,5 +91,6 @@ module _ (node : List ℕ) (c s : ℕ) (long : length node ≡ 64) (room : c < 6
 
   pub laid_known : (i : ℕ) → i < c → get_or laid i 0 ≡ s → take c laid ≡ add s (take c node)
   laid_known i h e =
-      let some : member s (take c node) ≡ true = at-any (eqb s) (take c node) 0 i (omega (arith, few)) (eq-eqb s (get_or (take c node) i 0) (sym (stands i h ∙ e))) in
+      let some : member s (take c node) ≡ true
+      = at-any (eqb s) (take c node) 0 i (omega (arith, few)) (eq-eqb s (get_or (take c node) i 0) (sym (stands i h ∙ e))) in
       rw some (take-set node c s)

@@ -11,7 +11,9 @@ pub returns-in-Err : goal.returns-in-Err
 returns-in-Err c = c.from.ensures ∙ maps_refuse _ _ _ c.requires.0 c.requires.1 c.requires.2 _ c.register_records-x.ensures _ c.in-Err.is
 
 pub returns-in-Err-answer : goal.returns-in-Err-answer
-returns-in-Err-answer c = c.from-in-Err-answer.ensures ∙ links_refuse _ _ _ c.requires.0 c.requires.1 c.requires.2 _ c.register_records-x.ensures c.in_default.is _ c.in-Err-answer.is
+returns-in-Err-answer c =
+    c.from-in-Err-answer.ensures
+    ∙ links_refuse _ _ _ c.requires.0 c.requires.1 c.requires.2 _ c.register_records-x.ensures c.in_default.is _ c.in-Err-answer.is
 
 pub list_nodes-requires : goal.list_nodes-requires
 list_nodes-requires c = c.requires.2

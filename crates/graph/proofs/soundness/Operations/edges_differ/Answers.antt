@@ -13,9 +13,11 @@ returns-then-not-edge_fits c =
 pub returns-then-has_bit : goal.returns-then-has_bit
 returns-then-has_bit c =
     let fits = sym c.edge_fits.ensures ∙ c.if-not-edge_fits.false in
-    seen_twice c.args.self.now.few_nodes c.loop-i.invariant fits c.loop-i-test.true (rw (← c.from.ensures, ← c.from-in-loop-i.ensures) (sym c.has_bit.ensures ∙ c.if-has_bit.true))
+    seen_twice c.args.self.now.few_nodes c.loop-i.invariant fits c.loop-i-test.true
+    (rw (← c.from.ensures, ← c.from-in-loop-i.ensures) (sym c.has_bit.ensures ∙ c.if-has_bit.true))
 
 pub loop-i-preserved : goal.loop-i-preserved
 loop-i-preserved c =
     let fits = sym c.edge_fits.ensures ∙ c.if-not-edge_fits.false in
-    rw (c.with_bit.ensures, c.from.ensures, c.from-in-loop-i.ensures) (seen_more c.args.self.now.few_nodes c.loop-i.invariant fits (rw (← c.from.ensures, ← c.from-in-loop-i.ensures) (sym c.has_bit.ensures ∙ c.if-has_bit.false)))
+    rw (c.with_bit.ensures, c.from.ensures, c.from-in-loop-i.ensures) (seen_more c.args.self.now.few_nodes c.loop-i.invariant fits
+    (rw (← c.from.ensures, ← c.from-in-loop-i.ensures) (sym c.has_bit.ensures ∙ c.if-has_bit.false)))
